@@ -1,7 +1,9 @@
 -- The result of a copy by a fresh decoder, as a fact of the bytes ahead.
-use Rattle.std.proofs.Common.{◌≡◌, ℕ, ◌+◌, ◌<◌, ◌≤◌, ◌^◌, ◌∙◌, ◌↔◌, IsTrue, IsOk, Bool, true, false, max, List, [], ◌++◌}
+use Rattle.std.proofs.Common.{◌≡◌, ℕ, ◌+◌, ◌<◌, ◌≤◌, ◌^◌, ◌∙◌, ◌↔◌, IsTrue, IsOk, max, List, [], ◌++◌}
 use Rattle.std.proofs.Common.{drop}
 use Rattle.std.proofs.Common.{length, Option, Result, Ok, Err, Some, ap, sym, subst, refl, arith, length-append}
+use Rattle.ciborium_ll_grammar.specs.declared.spelling.Spelling.{Spelling}
+use Rattle.ciborium_ll_grammar.specs.declared.spelling.Spelling.TheVariants.{Any, Shortest}
 use Rattle.ciborium_ll.specs.Types.Read.{Ghosts as Reader}
 use Rattle.ciborium_ll.specs.Types.Write.{Ghosts as Writer}
 use Rattle.ciborium_ll.specs.Types.SliceWriter.{SliceWriter}
@@ -62,27 +64,27 @@ stands_behind behind first written out after kept begun slice ended =
     ended ∙ slice ∙ ap (λ l. written ++ drop (length written) l) (ap (λ t. t.before) kept ∙ begun)
 
 module _ {R E W F : Type 0} (source : Reader R E) (sink : Writer W F) where
-  pub told_to_copy : (strict : Bool) (reader : R) (decoder : Decoder R) (writer : W) (due : List ℕ)
-      → IsFreshAs strict reader 0 decoder
+  pub told_to_copy : (allowed : Spelling) (reader : R) (decoder : Decoder R) (writer : W) (due : List ℕ)
+      → IsFreshAs allowed reader 0 decoder
       → source.ahead reader ≡ Some due → sink.written writer ≡ Some []
-      → IsTold source sink strict (sides decoder writer) due []
-  told_to_copy strict reader decoder writer due fresh ahead output = record {
+      → IsTold source sink allowed (sides decoder writer) due []
+  told_to_copy allowed reader decoder writer due fresh ahead output = record {
     mode = fresh.mode;
-    due-told = due_ahead source strict reader decoder fresh due ahead;
+    due-told = due_ahead source allowed reader decoder fresh due ahead;
     written-told = output;
     none_waits = λ on. fresh.none_waits;
   }
 
-  pub ready_to_copy : (strict : Bool) (count size room : ℕ) (reader : R) (decoder : Decoder R) (writer : W)
+  pub ready_to_copy : (allowed : Spelling) (count size room : ℕ) (reader : R) (decoder : Decoder R) (writer : W)
       (due : List ℕ)
-      → IsFreshAs strict reader 0 decoder → IsTrue (source.steady reader) → source.ahead reader ≡ Some due
+      → IsFreshAs allowed reader 0 decoder → IsTrue (source.steady reader) → source.ahead reader ≡ Some due
       → sink.written writer ≡ Some [] → sink.room writer ≡ Some room → HasRoom count due room
       → length due + 8 < offset_limit → length due + size < offset_limit
-      → IsReady source sink strict count size (sides decoder writer) due []
-  ready_to_copy strict count size room reader decoder writer due fresh steady ahead output space enough title chunk =
+      → IsReady source sink allowed count size (sides decoder writer) due []
+  ready_to_copy allowed count size room reader decoder writer due fresh steady ahead output space enough title chunk =
       record {
-        steady = still_steady source strict reader decoder fresh steady;
-        told = told_to_copy strict reader decoder writer due fresh ahead output;
+        steady = still_steady source allowed reader decoder fresh steady;
+        told = told_to_copy allowed reader decoder writer due fresh ahead output;
         room = room;
         room-told = space;
         enough = enough;
@@ -93,7 +95,7 @@ module _ {R E W F : Type 0} (source : Reader R E) (sink : Writer W F) where
   copy_reported :
       (count : ℕ) (due : List ℕ) (old new : Decoder R) (writer' : W) (result : Result (Unit {0}) (RecodeError E F))
       (report : CllReport) (output before after : List ℕ)
-      → RecodesTold source sink false count due [] old result (sides new writer') → old.offset ≡ 0
+      → RecodesTold source sink Any count due [] old result (sides new writer') → old.offset ≡ 0
       → sink.written writer' ≡ Some output → ReportsCopy report new.offset (length output) (copy_place result)
       → StandAtStart output before after → CopiesInto count due before (copy_answer result) after report
   copy_reported count due old new writer' (Ok done) report output before after told start out reports stands = (
@@ -139,7 +141,7 @@ module _ {R E W F : Type 0} (source : Reader R E) (sink : Writer W F) where
       reports stands = absurd told
 
   -- A writer that tells its room failed because the next thing to write did not fit.
-  room_stops : (count room : ℕ) (due : List ℕ) (old new : Sides R W) → IsTold source sink false old due []
+  room_stops : (count room : ℕ) (due : List ℕ) (old new : Sides R W) → IsTold source sink Any old due []
       → sink.room old.writer ≡ Some room → StopsWriting source sink count buffer_size old new
       → (for_room : StopsForRoom count due room) × (sink.written new.writer ≡ Some for_room.stop.written)
       × (new.decoder.offset ≡ old.decoder.offset + (length for_room.stop.before + length for_room.stop.read))
@@ -167,7 +169,7 @@ module _ {R E W F : Type 0} (source : Reader R E) (sink : Writer W F) where
       (count : ℕ) (due : List ℕ) (old new : Decoder R) (writer writer' : W)
       (result : Result (Unit {0}) (RecodeError E F)) (report : CllReport) (output before after : List ℕ)
       → CopiesElements source sink count buffer_size (sides old writer) result (sides new writer')
-      → IsSteady source old → IsTold source sink false (sides old writer) due []
+      → IsSteady source old → IsTold source sink Any (sides old writer) due []
       → sink.room writer ≡ Some (length before) → length due < 2 ^ 63 → old.offset ≡ 0
       → sink.written writer' ≡ Some output → ReportsCopy report new.offset (length output) (copy_place result)
       → StandAtStart output before after → CopiesAnyhow count due before (copy_answer result) after report
@@ -210,7 +212,7 @@ module _ {R E W F : Type 0} (source : Reader R E) (sink : Writer W F) where
   pub copy_said :
       (count : ℕ) (due : List ℕ) (old new : Decoder R) (writer' : W) (result : Result (Unit {0}) (RecodeError E F))
       (report : CllReport) (output before after : List ℕ)
-      (answer : CllAnswer) (place behind : ℕ) → RecodesTold source sink false count due [] old result (sides new writer')
+      (answer : CllAnswer) (place behind : ℕ) → RecodesTold source sink Any count due [] old result (sides new writer')
       → old.offset ≡ 0 → sink.written writer' ≡ Some output → answer ≡ copy_answer result → place ≡ copy_place result
       → behind ≡ new.offset → ReportsCopy report behind (length output) place
       → StandAtStart output before after → CopiesInto count due before answer after report
@@ -228,7 +230,7 @@ module _ {R E W F : Type 0} (source : Reader R E) (sink : Writer W F) where
       (result : Result (Unit {0}) (RecodeError E F)) (report : CllReport) (output before after : List ℕ)
       (answer : CllAnswer) (place behind : ℕ)
       → CopiesElements source sink count buffer_size (sides old writer) result (sides new writer')
-      → IsSteady source old → IsTold source sink false (sides old writer) due []
+      → IsSteady source old → IsTold source sink Any (sides old writer) due []
       → sink.room writer ≡ Some (length before) → length due < 2 ^ 63 → old.offset ≡ 0
       → sink.written writer' ≡ Some output → answer ≡ copy_answer result → place ≡ copy_place result
       → behind ≡ new.offset → ReportsCopy report behind (length output) place
@@ -246,7 +248,8 @@ module _ {R E W F : Type 0} (source : Reader R E) (sink : Writer W F) where
 
   check_reported :
       (count : ℕ) (due : List ℕ) (old new : Decoder R) (writer' : W) (result : Result (Unit {0}) (RecodeError E F))
-      (report : CllReport) → RecodesTold source sink true count due [] old result (sides new writer') → old.offset ≡ 0
+      (report : CllReport) → RecodesTold source sink Shortest count due [] old result (sides new writer')
+      → old.offset ≡ 0
       → ReportsCopy report new.offset 0 (copy_place result) → Checks count due (copy_answer result) report
   check_reported count due old new writer' (Ok done) report told start reports = (
     told.front,
@@ -283,7 +286,7 @@ module _ {R E W F : Type 0} (source : Reader R E) (sink : Writer W F) where
   pub check_said :
       (count : ℕ) (due : List ℕ) (old new : Decoder R) (writer' : W) (result : Result (Unit {0}) (RecodeError E F))
       (report : CllReport) (answer : CllAnswer) (place behind : ℕ)
-      → RecodesTold source sink true count due [] old result (sides new writer') → old.offset ≡ 0
+      → RecodesTold source sink Shortest count due [] old result (sides new writer') → old.offset ≡ 0
       → answer ≡ copy_answer result → place ≡ copy_place result → behind ≡ new.offset
       → ReportsCopy report behind 0 place → Checks count due answer report
   check_said count due old new writer' result report answer place behind told start same named at reports =

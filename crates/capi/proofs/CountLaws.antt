@@ -1,5 +1,5 @@
 -- The count of a copy by a fresh decoder, as a fact of the bytes ahead.
-use Rattle.std.proofs.Common.{◌≡◌, ℕ, suc, ◌<◌, ◌≤◌, ◌^◌, ◌∙◌, Bool, true, false, List, []}
+use Rattle.std.proofs.Common.{◌≡◌, ℕ, suc, ◌<◌, ◌≤◌, ◌^◌, ◌∙◌, List, []}
 use Rattle.std.proofs.Common.{◌++◌, ◌+◌, drop, take, length, Result, Ok, Err, Some, refl, sym, ap, subst, inl, arith}
 use Rattle.std.proofs.Common.{append-nil, append_assoc, length-append}
 use Rattle.std.proofs.Math.Seq.{take-append_seam}
@@ -20,6 +20,8 @@ use Rattle.capi.specs.declared.answer.CllReport.{CllReport}
 use Rattle.capi.specs.Answers.{ReportsElements}
 use Rattle.capi.specs.Copying.{HasRoom, StandAtStart, buffer_size, copy_answer}
 use Rattle.capi.specs.Counting.{CountsTo, CountsElements, CountsStrictTo, CountsStrictly, CountsCopy}
+use Rattle.ciborium_ll_grammar.specs.declared.spelling.Spelling.{Spelling}
+use Rattle.ciborium_ll_grammar.specs.declared.spelling.Spelling.TheVariants.{Any, Shortest}
 use Rattle.ciborium_ll_grammar.proofs.StrictFaultLaws.{no_fault}
 use Rattle.ciborium_ll.proofs.CopyingTold.{appends_told, consumes_told, shrinks_told}
 use Rattle.ciborium_ll_recode.proofs.RecodeAnyhowLaws.{recode_anyhow}
@@ -40,7 +42,7 @@ module _ {R E W F : Type 0} (source : Reader R E) (sink : Writer W F) where
 
   -- A copy of elements that stops adds its bytes after those that were written before.
   stopped_behind : (count : ℕ) (old new : Sides R W) (error : RecodeError E F) (due written : List ℕ)
-      → IsTold source sink false old due written → StopsCopy source sink count buffer_size old error new
+      → IsTold source sink Any old due written → StopsCopy source sink count buffer_size old error new
       → (more : List ℕ) × (sink.written new.writer ≡ Some (written ++ more))
   stopped_behind count old new (r.Read (e.Io fault)) due written told stops =
       let met = recode_anyhow source sink count buffer_size old due written told new (Err (r.Read (e.Io fault)))
@@ -60,8 +62,8 @@ module _ {R E W F : Type 0} (source : Reader R E) (sink : Writer W F) where
 
   -- After some elements the sides still tell the bytes ahead and the bytes written.
   told_behind : (count : ℕ) (old now : Sides R W) (due : List ℕ) (run : CopiesRun source sink count old now)
-      → IsTold source sink false old due []
-      → (rest : List ℕ) × IsTold source sink false now rest (spelling run.marks)
+      → IsTold source sink Any old due []
+      → (rest : List ℕ) × IsTold source sink Any now rest (spelling run.marks)
   told_behind count old now due run told =
       let gone = consumes_told _ _ due run.bytes told.due-told run.copied.passed.consumed in (
         gone.0,
@@ -75,7 +77,7 @@ module _ {R E W F : Type 0} (source : Reader R E) (sink : Writer W F) where
 
   -- All bytes that were written begin with the spelling of the elements that were counted.
   counted_behind : (count : ℕ) (due : List ℕ) (old new : Sides R W) (result : Result (Unit {0}) (RecodeError E F))
-      (elements whole spelled : ℕ) → IsTold source sink false old due []
+      (elements whole spelled : ℕ) → IsTold source sink Any old due []
       → (counted : CountsCopy source sink count buffer_size old result new elements whole spelled)
       → (more : List ℕ) × (sink.written new.writer ≡ Some (spelling counted.run.marks ++ more))
   counted_behind count due old new (Ok done) elements whole spelled told counted =
@@ -102,18 +104,18 @@ stands_within front more output before after is stands =
 module _ {R E W F : Type 0} (source : Reader R E) (sink : Writer W F) (count : ℕ) (due : List ℕ)
     (old new : Decoder R) (writer writer' : W) (report : CllReport) where
   -- The premises of a copy, which hold for any count.
-  abbrev pub IsReadyFor : Bool → ℕ → Type 0
-  IsReadyFor strict n = IsReady source sink strict n buffer_size (sides old writer) due []
+  abbrev pub IsReadyFor : Spelling → ℕ → Type 0
+  IsReadyFor allowed n = IsReady source sink allowed n buffer_size (sides old writer) due []
 
   -- ---- elements
 
   -- The bytes begin with the elements that were copied.
-  run_in_front : (strict : Bool) (elements : ℕ) (between : Sides R W)
-      → IsTold source sink strict (sides old writer) due []
+  run_in_front : (allowed : Spelling) (elements : ℕ) (between : Sides R W)
+      → IsTold source sink allowed (sides old writer) due []
       → (run : CopiesRun source sink elements (sides old writer) between) → old.offset ≡ 0
-      → (front : BeginsWithElements false elements due) × (between.decoder.offset ≡ length front.elements)
+      → (front : BeginsWithElements Any elements due) × (between.decoder.offset ≡ length front.elements)
       × (front.marks ≡ run.marks)
-  run_in_front strict elements between told run start =
+  run_in_front allowed elements between told run start =
       let gone = consumes_told _ _ due run.bytes told.due-told run.copied.passed.consumed in (
         record {
           elements = run.bytes;
@@ -127,8 +129,8 @@ module _ {R E W F : Type 0} (source : Reader R E) (sink : Writer W F) (count : �
         refl,
       )
 
-  module _ (room : ℕ) (steady : IsSteady source old) (told : IsTold source sink false (sides old writer) due [])
-      (ready : (n : ℕ) → HasRoom n due room → IsReadyFor false n) (object : length due < 2 ^ 63)
+  module _ (room : ℕ) (steady : IsSteady source old) (told : IsTold source sink Any (sides old writer) due [])
+      (ready : (n : ℕ) → HasRoom n due room → IsReadyFor Any n) (object : length due < 2 ^ 63)
       (start : old.offset ≡ 0) (whole : report.whole ≡ new.offset → report.whole ≡ report.consumed) where
     -- The count agrees with the answer of the copy.
     counted_to : (result : Result (Unit {0}) (RecodeError E F))
@@ -141,13 +143,13 @@ module _ {R E W F : Type 0} (source : Reader R E) (sink : Writer W F) (count : �
     )
     counted_to (Err (r.Read (e.Io fault))) counted = (
       counted.ends.0,
-      λ more. no_fault false (suc report.elements) due more
+      λ more. no_fault Any (suc report.elements) due more
           (short_told source sink (suc report.elements) buffer_size (sides old writer) due [] steady told fault
           (sides new writer') counted.ends.1).fault,
     )
     counted_to (Err (r.Read (e.Syntax place))) counted = (
       counted.ends.0,
-      λ more. no_fault false (suc report.elements) due more
+      λ more. no_fault Any (suc report.elements) due more
           (recode_anyhow source sink (suc report.elements) buffer_size (sides old writer) due [] told
           (sides new writer') (Err (r.Read (e.Syntax place))) counted.ends.1).2.fault,
     )
@@ -176,7 +178,7 @@ module _ {R E W F : Type 0} (source : Reader R E) (sink : Writer W F) (count : �
         let counted : CountsCopy source sink count buffer_size (sides old writer) result (sides new writer')
         report.elements report.whole report.spelled =
         rw (reports.elements_is, reports.whole_is, reports.spelled_is) copied in
-        let front = run_in_front false report.elements counted.between told counted.run start in
+        let front = run_in_front Any report.elements counted.between told counted.run start in
         let marks : spelling counted.run.marks ≡ spelling front.0.marks = ap spelling (sym front.2) in
         let begins = counted_behind source sink count due (sides old writer) (sides new writer') result report.elements
         report.whole report.spelled told counted in
@@ -193,12 +195,12 @@ module _ {R E W F : Type 0} (source : Reader R E) (sink : Writer W F) (count : �
 
   -- ---- elements in their shortest spelling
 
-  module _ (ready : (n : ℕ) → IsReadyFor true n) (start : old.offset ≡ 0)
+  module _ (ready : (n : ℕ) → IsReadyFor Shortest n) (start : old.offset ≡ 0)
       (whole : report.whole ≡ new.offset → report.whole ≡ report.consumed) where
     not_one_more : (error : RecodeError E F)
         → CopiesElements source sink (suc report.elements) buffer_size (sides old writer) (Err error)
         (sides new writer')
-        → BeginsWithElements true (suc report.elements) due → ⊥
+        → BeginsWithElements Shortest (suc report.elements) due → ⊥
     not_one_more error stops more =
         let ok = (recode_exactly source sink (suc report.elements) buffer_size (sides old writer) due []
         (ready (suc report.elements)) (sides new writer') (Err error) stops).1 more in

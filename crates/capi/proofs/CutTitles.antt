@@ -1,6 +1,7 @@
 -- The spot of a checker that got the beginning of one title.
-use Rattle.std.proofs.Common.{◌≡◌, ℕ, ◌%◌, ◌≤◌, ◌⊎◌, inl, inr, Bool, List, [], ◌∷◌, ◌++◌, length, refl, sym, ap}
+use Rattle.std.proofs.Common.{◌≡◌, ℕ, ◌%◌, ◌≤◌, ◌⊎◌, inl, inr, List, [], ◌∷◌, ◌++◌, length, refl, sym, ap}
 use Rattle.std.proofs.Common.{subst, ◌∙◌, arith, append-nil, length-append}
+use Rattle.ciborium_ll_grammar.specs.declared.spelling.Spelling.{Spelling}
 use Rattle.ciborium_ll.specs.Types.Header.{Header}
 use Rattle.ciborium_ll.specs.Title.{IsTitle, IsCutTitle, affix_len}
 use Rattle.ciborium_ll.proofs.AffixLaws.{announced, title_not_cut}
@@ -43,11 +44,11 @@ title_goes bytes b spot new at is_cut (whole header is_title taken) =
     (subst IsCutTitle (sym front ∙ sym (append-nil (spot.front ++ b ∷ []))) is_cut))
 title_goes bytes b spot new at is_cut (none never) = inr tt
 
-at_title : (strict : Bool) (depth : ℕ) (bytes : List ℕ) (spot : Spot) → IsFed strict depth bytes spot
+at_title : (allowed : Spelling) (depth : ℕ) (bytes : List ℕ) (spot : Spot) → IsFed allowed depth bytes spot
     → IsCutTitle bytes → AtTitle bytes spot ⊎ IsAtFault spot
-at_title strict depth bytes spot fresh is_cut = inl (record { phase = refl; front = refl })
-at_title strict depth bytes spot (more {bytes = before} {spot = old} b byte fed step) is_cut =
-    elim (at_title strict depth before old fed (cut_sooner before b is_cut)) [
+at_title allowed depth bytes spot fresh is_cut = inl (record { phase = refl; front = refl })
+at_title allowed depth bytes spot (more {bytes = before} {spot = old} b byte fed step) is_cut =
+    elim (at_title allowed depth before old fed (cut_sooner before b is_cut)) [
       | inl at ↦ title_goes before b old spot at is_cut (subst (λ (z : Phase). StepIn z old b spot) at.phase step)
       | inr has ↦ absurd (no_step old.phase old spot b has step)
     ]
@@ -68,12 +69,12 @@ title_lacks (p.Text left state) spot due at lacks = absurd cc
 title_lacks p.Ended spot due at lacks = absurd cc
 
 -- A checker lacks as many bytes of a cut title as the title lacks.
-pub cut_lacks : (strict : Bool) (depth : ℕ) (bytes : List ℕ) (checker : Checker) (due : ℕ)
-    → HasRead strict depth bytes checker → IsCutTitle bytes → Answers checker (r.More due) → due ≡ title_due bytes
+pub cut_lacks : (allowed : Spelling) (depth : ℕ) (bytes : List ℕ) (checker : Checker) (due : ℕ)
+    → HasRead allowed depth bytes checker → IsCutTitle bytes → Answers checker (r.More due) → due ≡ title_due bytes
 unfolding HasRead Answers
-cut_lacks strict depth bytes checker due has_read is_cut lacks =
+cut_lacks allowed depth bytes checker due has_read is_cut lacks =
     let spot : Spot = spot_of checker in
-    elim (at_title strict depth bytes spot has_read is_cut) [
+    elim (at_title allowed depth bytes spot has_read is_cut) [
       | inl at ↦ title_lacks spot.phase spot due at.phase (sym lacks) ∙ ap title_due at.front
       | inr has ↦ absurd (fault_lacks_none spot.phase spot due has (sym lacks))
     ]

@@ -1,5 +1,5 @@
 -- The bytes that are due after whole elements, if the next element is cut off.
-use Rattle.std.proofs.Common.{◌≡◌, ℕ, zero, suc, ◌+◌, ◌-◌, ◌<◌, ◌≤◌, ◌⊎◌, inl, inr, Bool, true, List, [], ◌∷◌, ◌++◌, length}
+use Rattle.std.proofs.Common.{◌≡◌, ℕ, zero, suc, ◌+◌, ◌-◌, ◌<◌, ◌≤◌, ◌⊎◌, inl, inr, List, [], ◌∷◌, ◌++◌, length}
 use Rattle.std.proofs.Common.{take, drop, refl, sym, ap, subst, ◌∙◌, arith, append_assoc, append-nil, length-append}
 use Rattle.std.specs.List.{AllByRecursion}
 use Rattle.std.proofs.lemmas.Bool.{cases_lt}
@@ -16,6 +16,8 @@ use Rattle.ciborium_ll.proofs.AffixLaws.{cut_before}
 use Rattle.ciborium_ll.proofs.FaultLaws.{follows}
 use Rattle.ciborium_ll.proofs.Lists.{front_of_front, length_zero}
 use Rattle.ciborium_ll.proofs.StepLaws.{add_element}
+use Rattle.ciborium_ll_grammar.specs.declared.spelling.Spelling.{Spelling}
+use Rattle.ciborium_ll_grammar.specs.declared.spelling.Spelling.TheVariants.{Shortest}
 use Rattle.ciborium_ll_grammar.proofs.SpelledLaws.{spelled_alone, spelled_then}
 use Rattle.cbor_skip.specs.ItemFaults.{BeginsWithItem}
 use Rattle.capi.specs.Lacking.{CheckerLacks, ItemLacks, ElementsLack}
@@ -26,37 +28,37 @@ use Rattle.capi.proofs.ElementShapes.{title_item, break_long, zero_item, zero_ti
 -- ---- runs
 
 -- The bytes are this many elements.
-record AreElements (strict : Bool) (count : ℕ) (bytes : List ℕ) : Type 0 where
+record AreElements (allowed : Spelling) (count : ℕ) (bytes : List ℕ) : Type 0 where
   marks : List Mark
   run : IsRun count bytes marks
-  spelled : strict ≡ true → IsStrictSpelling bytes marks []
+  spelled : allowed ≡ Shortest → IsStrictSpelling bytes marks []
 
 -- An element is its own spelling, if only the shortest spelling is taken.
-abbrev IsOwn : Bool → List ℕ → List Mark → Type 0
-IsOwn strict word marks = strict ≡ true → (word ≡ spelling marks) × AllByRecursion IsNoSmallSimple marks
+abbrev IsOwn : Spelling → List ℕ → List Mark → Type 0
+IsOwn allowed word marks = allowed ≡ Shortest → (word ≡ spelling marks) × AllByRecursion IsNoSmallSimple marks
 
-add : (strict : Bool) (count : ℕ) (bytes word : List ℕ) (marks : List Mark) → AreElements strict count bytes
-    → IsElement word marks → IsOwn strict word marks → AreElements strict (suc count) (bytes ++ word)
-add strict count bytes word marks are element own = record {
+add : (allowed : Spelling) (count : ℕ) (bytes word : List ℕ) (marks : List Mark) → AreElements allowed count bytes
+    → IsElement word marks → IsOwn allowed word marks → AreElements allowed (suc count) (bytes ++ word)
+add allowed count bytes word marks are element own = record {
   marks = are.marks ++ marks;
   run = add_element count bytes are.marks are.run word marks element;
   spelled = λ on. spelled_then bytes are.marks word marks (are.spelled on) (own on).0 (own on).1;
 }
 
 -- With a number of zeros after them, the elements are that many more.
-add_zeros : (strict : Bool) (count more all : ℕ) (bytes : List ℕ) → count + more ≡ all
-    → AreElements strict count bytes → (zeros : List ℕ) × AreElements strict all (bytes ++ zeros)
-add_zeros strict count zero all bytes sum are =
+add_zeros : (allowed : Spelling) (count more all : ℕ) (bytes : List ℕ) → count + more ≡ all
+    → AreElements allowed count bytes → (zeros : List ℕ) × AreElements allowed all (bytes ++ zeros)
+add_zeros allowed count zero all bytes sum are =
     let same : count ≡ all = omega (arith, sum) in (
       [],
-      subst (λ (n : ℕ). AreElements strict n (bytes ++ [])) same
-          (subst (AreElements strict count) (sym (append-nil bytes)) are),
+      subst (λ (n : ℕ). AreElements allowed n (bytes ++ [])) same
+          (subst (AreElements allowed count) (sym (append-nil bytes)) are),
     )
-add_zeros strict count (suc more) all bytes sum are =
-    let one = add strict count bytes (0 ∷ []) (Plain (h.Positive 0) ∷ []) are (plain (h.Positive 0) zero_title tt)
+add_zeros allowed count (suc more) all bytes sum are =
+    let one = add allowed count bytes (0 ∷ []) (Plain (h.Positive 0) ∷ []) are (plain (h.Positive 0) zero_title tt)
     (λ on. (refl, ((λ small. small), tt))) in
-    let others = add_zeros strict (suc count) more all (bytes ++ 0 ∷ []) (omega (arith, sum)) one in
-    ((0 ∷ []) ++ others.0, subst (AreElements strict all) (append_assoc bytes (0 ∷ []) others.0) others.1)
+    let others = add_zeros allowed (suc count) more all (bytes ++ 0 ∷ []) (omega (arith, sum)) one in
+    ((0 ∷ []) ++ others.0, subst (AreElements allowed all) (append_assoc bytes (0 ∷ []) others.0) others.1)
 
 -- A run of one element is an element.
 element_of_one : (count : ℕ) (word : List ℕ) (marks : List Mark) → count ≡ 1 → IsRun count word marks
@@ -74,11 +76,11 @@ break_or header = inr (λ same. absurd cc)
 -- ---- after whole elements
 
 -- An element begins with these bytes, and its other bytes begin `more`.
-record Next (strict : Bool) (before more : List ℕ) : Type 0 where
+record Next (allowed : Spelling) (before more : List ℕ) : Type 0 where
   next : List ℕ
   rest : List ℕ
   some : 0 < length next
-  shape : Shape strict (before ++ next)
+  shape : Shape allowed (before ++ next)
   is : more ≡ next ++ rest
 
 -- An element is cut off after these bytes, and its other bytes begin `more`.
@@ -88,16 +90,17 @@ record Split (before word more rest : List ℕ) : Type 0 where
   word_is : word ≡ before ++ next
   more_is : more ≡ next ++ rest
 
-module _ (strict : Bool) (law : StrictLaw strict) (whole : ℕ) (bytes : List ℕ) (front : BeginsWithElements strict whole bytes)
-    (cut : BeginsWithElements strict (suc whole) bytes → ⊥) where
-  whole_elements : AreElements strict whole front.elements
+module _ (allowed : Spelling) (law : StrictLaw allowed) (whole : ℕ) (bytes : List ℕ)
+    (front : BeginsWithElements allowed whole bytes)
+    (cut : BeginsWithElements allowed (suc whole) bytes → ⊥) where
+  whole_elements : AreElements allowed whole front.elements
   whole_elements = record { marks = front.marks; run = front.run; spelled = front.spelled }
 
   -- No element follows the whole elements.
-  none_behind : (word rest : List ℕ) (marks : List Mark) → IsElement word marks → IsOwn strict word marks
+  none_behind : (word rest : List ℕ) (marks : List Mark) → IsElement word marks → IsOwn allowed word marks
       → front.rest ≡ word ++ rest → ⊥
   none_behind word rest marks element own is =
-      let one = add strict whole front.elements word marks whole_elements element own in
+      let one = add allowed whole front.elements word marks whole_elements element own in
       cut (record {
         elements = front.elements ++ word;
         marks = one.marks;
@@ -109,9 +112,9 @@ module _ (strict : Bool) (law : StrictLaw strict) (whole : ℕ) (bytes : List �
       })
 
   -- No item follows the whole elements.
-  pub no_item : (depth : ℕ) → BeginsWithItem strict depth front.rest → ⊥
+  pub no_item : (depth : ℕ) → BeginsWithItem allowed depth front.rest → ⊥
   no_item depth item =
-      let first = first_of strict law depth item.item item.is_item in
+      let first = first_of allowed law depth item.item item.is_item in
       none_behind first.elements (first.rest ++ item.rest) first.marks
       (element_of_one 1 first.elements first.marks refl first.run)
       (λ on. (spelled_alone first.elements first.marks (first.spelled on), (first.spelled on).meant))
@@ -119,7 +122,7 @@ module _ (strict : Bool) (law : StrictLaw strict) (whole : ℕ) (bytes : List �
       ∙ append_assoc first.elements first.rest item.rest)
 
   -- An element that begins the rest and more bytes ends within these bytes.
-  split : (word more rest : List ℕ) (marks : List Mark) → IsElement word marks → IsOwn strict word marks
+  split : (word more rest : List ℕ) (marks : List Mark) → IsElement word marks → IsOwn allowed word marks
       → front.rest ++ more ≡ word ++ rest → Split front.rest word more rest
   split word more rest marks element own is =
       elim (cases_lt (length front.rest) (length word)) [
@@ -139,27 +142,27 @@ module _ (strict : Bool) (law : StrictLaw strict) (whole : ℕ) (bytes : List �
             )
       ]
 
-  next_element : (count : ℕ) (more : List ℕ) → whole < count → BeginsWithElements strict count (bytes ++ more)
-      → Next strict front.rest more
+  next_element : (count : ℕ) (more : List ℕ) → whole < count → BeginsWithElements allowed count (bytes ++ more)
+      → Next allowed front.rest more
   next_element count more fewer run =
       let same : front.elements ++ (front.rest ++ more) ≡ run.elements ++ run.rest =
       sym (append_assoc front.elements front.rest more) ∙ ap (λ (z : List ℕ). z ++ more) (sym front.is) ∙ run.is in
       let z = follows whole front.elements front.marks front.run count run.elements run.marks run.run fewer
       (front.rest ++ more) run.rest same in
-      let own : IsOwn strict z.word z.marks = λ on.
+      let own : IsOwn allowed z.word z.marks = λ on.
       z.spelled (spelled_alone run.elements run.marks (run.spelled on)) (run.spelled on).meant in
       let s = split z.word more z.rest z.marks z.ok own z.is in
       record {
         next = s.next;
         rest = z.rest;
         some = s.some;
-        shape = subst (Shape strict) s.word_is (shape_of strict law z.word z.marks z.ok own);
+        shape = subst (Shape allowed) s.word_is (shape_of allowed law z.word z.marks z.ok own);
         is = s.more_is;
       }
 
-  module _ (due : ℕ) (lacks : ItemLacks strict 1 front.rest due) where
+  module _ (due : ℕ) (lacks : ItemLacks allowed 1 front.rest due) where
     -- The bytes that complete an item are at least as many as are due.
-    item_least : (next : List ℕ) → IsItem strict 1 (front.rest ++ next) → (1 ≤ due) × (due ≤ length next)
+    item_least : (next : List ℕ) → IsItem allowed 1 (front.rest ++ next) → (1 ≤ due) × (due ≤ length next)
     item_least next is_item =
         lacks.least next (record {
           item = front.rest ++ next;
@@ -170,19 +173,19 @@ module _ (strict : Bool) (law : StrictLaw strict) (whole : ℕ) (bytes : List �
 
     -- Some bytes are due after the beginning of a title.
     title_positive : (next : List ℕ) (header : Header) → 0 < length next → IsTitle (front.rest ++ next) header
-        → IsTakenTitle strict (front.rest ++ next) header → IsPlain header → 1 ≤ due
+        → IsTakenTitle allowed (front.rest ++ next) header → IsPlain header → 1 ≤ due
     title_positive next header some is_title taken is_plain =
         elim (break_or header) [
           | inl same ↦ (
               let one = break_long (front.rest ++ next) (subst (IsTitle (front.rest ++ next)) same is_title) in
               let none : front.rest ≡ [] = length_zero front.rest
               (omega (arith, one, some, length-append front.rest next)) in
-              (item_least (0 ∷ []) (subst (λ (z : List ℕ). IsItem strict 1 (z ++ 0 ∷ [])) (sym none)
-              (zero_item strict 1))).0
+              (item_least (0 ∷ []) (subst (λ (z : List ℕ). IsItem allowed 1 (z ++ 0 ∷ [])) (sym none)
+              (zero_item allowed 1))).0
               )
           | inr goes ↦ (
-              let o = title_item strict (front.rest ++ next) header is_title taken is_plain goes in
-              (item_least (next ++ o.0) (subst (IsItem strict 1) (append_assoc front.rest next o.0) o.1)).0
+              let o = title_item allowed (front.rest ++ next) header is_title taken is_plain goes in
+              (item_least (next ++ o.0) (subst (IsItem allowed 1) (append_assoc front.rest next o.0) o.1)).0
               )
         ]
 
@@ -192,17 +195,17 @@ module _ (strict : Bool) (law : StrictLaw strict) (whole : ℕ) (bytes : List �
     title_due_least (b ∷ next) header some is_title positive =
         let is_cut = cut_before front.rest b next header is_title in
         let checker = lacks.checker positive in
-        let same = cut_lacks strict 1 front.rest checker.checker due checker.has_read is_cut checker.lacks in
+        let same = cut_lacks allowed 1 front.rest checker.checker due checker.has_read is_cut checker.lacks in
         omega (arith, same, title_least front.rest (b ∷ next) header is_title)
 
-    next_least : (next : List ℕ) → 0 < length next → Shape strict (front.rest ++ next)
+    next_least : (next : List ℕ) → 0 < length next → Shape allowed (front.rest ++ next)
         → (1 ≤ due) × (due ≤ length next)
     next_least next some (whole_item is_item) = item_least next is_item
     next_least next some (titled header is_title taken is_plain) =
         let positive = title_positive next header some is_title taken is_plain in
         (positive, title_due_least next header some is_title positive)
 
-    least : (count : ℕ) (more : List ℕ) → whole < count → BeginsWithElements strict count (bytes ++ more)
+    least : (count : ℕ) (more : List ℕ) → whole < count → BeginsWithElements allowed count (bytes ++ more)
         → (1 ≤ due) × (due ≤ length more)
     least count more fewer run =
         let o = next_element count more fewer run in
@@ -212,18 +215,18 @@ module _ (strict : Bool) (law : StrictLaw strict) (whole : ℕ) (bytes : List �
 
     -- Some bytes complete the cut element, and zeros after them are the other elements.
     some_follow : (count : ℕ) → whole < count → 1 ≤ due
-        → (more : List ℕ) × BeginsWithElements strict count (bytes ++ more)
+        → (more : List ℕ) × BeginsWithElements allowed count (bytes ++ more)
     some_follow count fewer positive =
         let o = lacks.some positive in
-        let first = first_of strict law 1 o.1.item o.1.is_item in
+        let first = first_of allowed law 1 o.1.item o.1.is_item in
         let element = element_of_one 1 first.elements first.marks refl first.run in
-        let own : IsOwn strict first.elements first.marks = λ on.
+        let own : IsOwn allowed first.elements first.marks = λ on.
         (spelled_alone first.elements first.marks (first.spelled on), (first.spelled on).meant) in
         let s = split first.elements o.0 (first.rest ++ o.1.rest) first.marks element own
         (o.1.is ∙ ap (λ (z : List ℕ). z ++ o.1.rest) first.is
         ∙ append_assoc first.elements first.rest o.1.rest) in
-        let one = add strict whole front.elements first.elements first.marks whole_elements element own in
-        let all = add_zeros strict (suc whole) (count - suc whole) count (front.elements ++ first.elements)
+        let one = add allowed whole front.elements first.elements first.marks whole_elements element own in
+        let all = add_zeros allowed (suc whole) (count - suc whole) count (front.elements ++ first.elements)
         (omega (arith, fewer)) one in
         let bytes_are : bytes ++ (s.next ++ all.0) ≡ (front.elements ++ first.elements) ++ all.0 =
         sym (append_assoc bytes s.next all.0) ∙ ap (λ (z : List ℕ). z ++ all.0)
@@ -241,17 +244,17 @@ module _ (strict : Bool) (law : StrictLaw strict) (whole : ℕ) (bytes : List �
         )
 
     elements_lack_behind : (count at : ℕ) → whole < count → drop at bytes ≡ front.rest
-        → ElementsLack strict count bytes at due
+        → ElementsLack allowed count bytes at due
     elements_lack_behind count at fewer behind = record {
       least = λ more run. least count more fewer run;
       some = some_follow count fewer;
-      checker = λ positive. subst (λ (z : List ℕ). CheckerLacks strict 1 z due) (sym behind) (lacks.checker positive);
+      checker = λ positive. subst (λ (z : List ℕ). CheckerLacks allowed 1 z due) (sym behind) (lacks.checker positive);
     }
 
 -- The bytes after the whole elements are those from their offset on.
-rest_behind : (strict : Bool) (n at : ℕ) (bytes : List ℕ) (front : BeginsWithElements strict n bytes)
+rest_behind : (allowed : Spelling) (n at : ℕ) (bytes : List ℕ) (front : BeginsWithElements allowed n bytes)
     → at ≡ length front.elements → drop at bytes ≡ front.rest
-rest_behind strict n at bytes front ends =
+rest_behind allowed n at bytes front ends =
     ap (λ (z : ℕ). drop z bytes) ends ∙ ap (drop (length front.elements)) front.is
     ∙ drop-append_seam front.elements front.rest
 
@@ -260,19 +263,21 @@ lent_is : (at : ℕ) (bytes : List ℕ) → take (length bytes - at) (drop at by
 lent_is at bytes = take_all (length bytes - at) (drop at bytes) (omega (arith, length-drop at bytes))
 
 -- If no more whole elements come first, no item follows them.
-pub none_in_front : (strict : Bool) → StrictLaw strict → (n at : ℕ) (bytes : List ℕ)
-    (front : BeginsWithElements strict n bytes) → at ≡ length front.elements → (BeginsWithElements strict (suc n) bytes → ⊥)
-    → BeginsWithItem strict 1 (take (length bytes - at) (drop at bytes)) → ⊥
-none_in_front strict law n at bytes front ends cut item =
-    no_item strict law n bytes front cut 1
-    (subst (BeginsWithItem strict 1) (lent_is at bytes ∙ rest_behind strict n at bytes front ends) item)
+pub none_in_front : (allowed : Spelling) → StrictLaw allowed → (n at : ℕ) (bytes : List ℕ)
+    (front : BeginsWithElements allowed n bytes) → at ≡ length front.elements
+    → (BeginsWithElements allowed (suc n) bytes → ⊥)
+    → BeginsWithItem allowed 1 (take (length bytes - at) (drop at bytes)) → ⊥
+none_in_front allowed law n at bytes front ends cut item =
+    no_item allowed law n bytes front cut 1
+    (subst (BeginsWithItem allowed 1) (lent_is at bytes ∙ rest_behind allowed n at bytes front ends) item)
 
 -- The elements lack the bytes that an item after the whole elements lacks.
-pub elements_lack : (strict : Bool) → StrictLaw strict → (n count at due : ℕ) (bytes : List ℕ)
-    (front : BeginsWithElements strict n bytes) → at ≡ length front.elements → (BeginsWithElements strict (suc n) bytes → ⊥)
-    → n < count → ItemLacks strict 1 (take (length bytes - at) (drop at bytes)) due
-    → ElementsLack strict count bytes at due
-elements_lack strict law n count at due bytes front ends cut fewer lacks =
-    let behind = rest_behind strict n at bytes front ends in
-    elements_lack_behind strict law n bytes front cut due
-    (subst (λ (z : List ℕ). ItemLacks strict 1 z due) (lent_is at bytes ∙ behind) lacks) count at fewer behind
+pub elements_lack : (allowed : Spelling) → StrictLaw allowed → (n count at due : ℕ) (bytes : List ℕ)
+    (front : BeginsWithElements allowed n bytes) → at ≡ length front.elements
+    → (BeginsWithElements allowed (suc n) bytes → ⊥)
+    → n < count → ItemLacks allowed 1 (take (length bytes - at) (drop at bytes)) due
+    → ElementsLack allowed count bytes at due
+elements_lack allowed law n count at due bytes front ends cut fewer lacks =
+    let behind = rest_behind allowed n at bytes front ends in
+    elements_lack_behind allowed law n bytes front cut due
+    (subst (λ (z : List ℕ). ItemLacks allowed 1 z due) (lent_is at bytes ∙ behind) lacks) count at fewer behind

@@ -1,7 +1,9 @@
 -- Elements and items: a string is both, and the title of any other element but a break begins an item.
-use Rattle.std.proofs.Common.{◌≡◌, ℕ, zero, suc, ◌*◌, ◌↔◌, Bool, true, false, List, [], ◌∷◌, ◌++◌, length}
+use Rattle.std.proofs.Common.{◌≡◌, ℕ, zero, suc, ◌*◌, ◌↔◌, List, [], ◌∷◌, ◌++◌, length}
 use Rattle.std.proofs.Common.{Some, None, refl, sym, ap, subst, ◌∙◌, arith, append_assoc, append-nil}
 use Rattle.std.specs.List.{AllByRecursion}
+use Rattle.ciborium_ll_grammar.specs.declared.spelling.Spelling.{Spelling}
+use Rattle.ciborium_ll_grammar.specs.declared.spelling.Spelling.TheVariants.{Any, Shortest}
 use Rattle.ciborium_ll.specs.Types.Header.{Header}
 use Rattle.ciborium_ll.specs.Types.Header.TheVariants as h
 use Rattle.ciborium_ll.specs.Title.{IsTitle, IsStrictTitle, numbered, Unsigned, Small}
@@ -23,50 +25,50 @@ use Rattle.ciborium_ll.proofs.NestLaws.{alone_bytes, open_alone}
 use Rattle.cbor_skip.proofs.ItemSteps.{item_of}
 
 -- The law of elements in their shortest spelling, if a copy takes only these.
-abbrev pub StrictLaw : Bool → Type 0
-StrictLaw strict = strict ≡ true → (count : ℕ) (bytes : List ℕ) (marks : List Mark)
+abbrev pub StrictLaw : Spelling → Type 0
+StrictLaw allowed = allowed ≡ Shortest → (count : ℕ) (bytes : List ℕ) (marks : List Mark)
     → IsStrictRun count bytes marks ↔ AreStrictElements count bytes marks
 
 -- No law is needed if a copy takes any spelling.
-pub no_law : StrictLaw false
+pub no_law : StrictLaw Any
 no_law on count bytes marks = absurd cc
 
 -- The copy takes the element.
-abbrev IsTakenElement : Bool → List ℕ → List Mark → Type 0
-IsTakenElement true word marks = IsStrictElement word marks
-IsTakenElement false word marks = IsElement word marks
+abbrev IsTakenElement : Spelling → List ℕ → List Mark → Type 0
+IsTakenElement Shortest word marks = IsStrictElement word marks
+IsTakenElement Any word marks = IsElement word marks
 
 -- ---- an element
 
 -- An element is a title that begins no string, or an item.
-pub data Shape (strict : Bool) (word : List ℕ) : Type 0 where
-  titled : (header : Header) → IsTitle word header → IsTakenTitle strict word header → IsPlain header
-      → Shape strict word
-  whole_item : IsItem strict 1 word → Shape strict word
+pub data Shape (allowed : Spelling) (word : List ℕ) : Type 0 where
+  titled : (header : Header) → IsTitle word header → IsTakenTitle allowed word header → IsPlain header
+      → Shape allowed word
+  whole_item : IsItem allowed 1 word → Shape allowed word
 
-string_completes : (strict : Bool) (kind : Kind) (body : List ℕ) → IsWritable kind body
-    → Completes strict 1 (kind_header kind (Some (length body))) body
-string_completes strict Bytes body sound = byte_string refl
-string_completes strict Text body sound = text_string refl sound
+string_completes : (allowed : Spelling) (kind : Kind) (body : List ℕ) → IsWritable kind body
+    → Completes allowed 1 (kind_header kind (Some (length body))) body
+string_completes allowed Bytes body sound = byte_string refl
+string_completes allowed Text body sound = text_string refl sound
 
-open_completes : (strict : Bool) (kind : Kind) (strings : List ℕ) (bodies : List (List ℕ))
-    → AreStrings kind strings bodies → AreTakenStrings strict kind strings bodies → AreWritable kind bodies
-    → Completes strict 1 (kind_header kind None) (strings ++ 0xff ∷ [])
-open_completes strict Bytes strings bodies are taken sound = open_bytes are taken
-open_completes strict Text strings bodies are taken sound = open_text are taken sound
+open_completes : (allowed : Spelling) (kind : Kind) (strings : List ℕ) (bodies : List (List ℕ))
+    → AreStrings kind strings bodies → AreTakenStrings allowed kind strings bodies → AreWritable kind bodies
+    → Completes allowed 1 (kind_header kind None) (strings ++ 0xff ∷ [])
+open_completes allowed Bytes strings bodies are taken sound = open_bytes are taken
+open_completes allowed Text strings bodies are taken sound = open_text are taken sound
 
-any_shape : (word : List ℕ) (marks : List Mark) → IsElement word marks → Shape false word
+any_shape : (word : List ℕ) (marks : List Mark) → IsElement word marks → Shape Any word
 any_shape word marks (plain_element header is_title is_plain) = titled header is_title tt is_plain
 any_shape word marks (string kind (definite {title = t} {body = b} is_title) sound) =
-    whole_item (item_of false 1 t b (kind_header kind (Some (length b))) is_title tt
-    (string_completes false kind b sound.0))
+    whole_item (item_of Any 1 t b (kind_header kind (Some (length b))) is_title tt
+    (string_completes Any kind b sound.0))
 any_shape word marks (string kind (indefinite {title = t} {strings = u} {bodies = bs} is_title are) sound) =
-    whole_item (item_of false 1 t (u ++ 0xff ∷ []) (kind_header kind None) is_title tt
-    (open_completes false kind u bs are tt sound))
+    whole_item (item_of Any 1 t (u ++ 0xff ∷ []) (kind_header kind None) is_title tt
+    (open_completes Any kind u bs are tt sound))
 
 flat_strings : (kind : Kind) (u : List ℕ) (bs : List (List ℕ)) → AreFlat kind u bs → AreStrings kind u bs
 flat_strings kind u bs no_flat = no_strings
-flat_strings kind u bs (more_flat {rest = v} {bodies = cs} is_title strict flat) =
+flat_strings kind u bs (more_flat {rest = v} {bodies = cs} is_title allowed flat) =
     more_strings (definite is_title) (flat_strings kind v cs flat)
 
 open_strict : (kind : Kind) (t : List ℕ) → IsTitle t (kind_header kind None) → IsStrictTitle t (kind_header kind None)
@@ -79,14 +81,14 @@ open_strict Text t is_title = record {
   meant = λ small. small;
 }
 
-strict_shape : (word : List ℕ) (marks : List Mark) → IsStrictElement word marks → Shape true word
-strict_shape word marks (plain header is_title strict is_plain) = titled header is_title strict is_plain
-strict_shape word marks (whole {title = t} {body = b} kind is_title strict sound) =
-    whole_item (item_of true 1 t b (kind_header kind (Some (length b))) is_title strict
-    (string_completes true kind b sound))
+strict_shape : (word : List ℕ) (marks : List Mark) → IsStrictElement word marks → Shape Shortest word
+strict_shape word marks (plain header is_title allowed is_plain) = titled header is_title allowed is_plain
+strict_shape word marks (whole {title = t} {body = b} kind is_title allowed sound) =
+    whole_item (item_of Shortest 1 t b (kind_header kind (Some (length b))) is_title allowed
+    (string_completes Shortest kind b sound))
 strict_shape word marks (parts {title = t} {strings = u} {bodies = bs} kind is_title flat sound) =
-    whole_item (item_of true 1 t (u ++ 0xff ∷ []) (kind_header kind None) is_title (open_strict kind t is_title)
-    (open_completes true kind u bs (flat_strings kind u bs flat) flat sound))
+    whole_item (item_of Shortest 1 t (u ++ 0xff ∷ []) (kind_header kind None) is_title (open_strict kind t is_title)
+    (open_completes Shortest kind u bs (flat_strings kind u bs flat) flat sound))
 
 -- The bytes are one element.
 record One (word : List ℕ) : Type 0 where
@@ -105,21 +107,21 @@ run_of_one : (word : List ℕ) (marks : List Mark) → IsElement word marks → 
 run_of_one word marks element = add_element 0 [] [] run_done word marks element
 
 -- An element that is taken has one of the two shapes.
-pub shape_of : (strict : Bool) → StrictLaw strict → (word : List ℕ) (marks : List Mark) → IsElement word marks
-    → (strict ≡ true → (word ≡ spelling marks) × AllByRecursion IsNoSmallSimple marks) → Shape strict word
-shape_of false law word marks element spelled = any_shape word marks element
-shape_of true law word marks element spelled =
+pub shape_of : (allowed : Spelling) → StrictLaw allowed → (word : List ℕ) (marks : List Mark) → IsElement word marks
+    → (allowed ≡ Shortest → (word ≡ spelling marks) × AllByRecursion IsNoSmallSimple marks) → Shape allowed word
+shape_of Any law word marks element spelled = any_shape word marks element
+shape_of Shortest law word marks element spelled =
     let own = spelled refl in
     let one = one_of 1 word marks refl
     ((law refl 1 word marks).0 (record { run = run_of_one word marks element; same = own.0; meant = own.1 })) in
-    subst (Shape true) (sym one.is) (strict_shape one.same one.marks one.element)
+    subst (Shape Shortest) (sym one.is) (strict_shape one.same one.marks one.element)
 
 -- ---- an item
 
 -- Bytes that begin with an element that is taken begin with one element.
-taken_front : (strict : Bool) → StrictLaw strict → (word rest bytes : List ℕ) (marks : List Mark)
-    → IsTakenElement strict word marks → bytes ≡ word ++ rest → BeginsWithElements strict 1 bytes
-taken_front false law word rest bytes marks element is = record {
+taken_front : (allowed : Spelling) → StrictLaw allowed → (word rest bytes : List ℕ) (marks : List Mark)
+    → IsTakenElement allowed word marks → bytes ≡ word ++ rest → BeginsWithElements allowed 1 bytes
+taken_front Any law word rest bytes marks element is = record {
   elements = word;
   marks = marks;
   rest = rest;
@@ -127,7 +129,7 @@ taken_front false law word rest bytes marks element is = record {
   is = is;
   spelled = λ on. absurd cc;
 }
-taken_front true law word rest bytes marks element is =
+taken_front Shortest law word rest bytes marks element is =
     let strict = (law refl 1 (word ++ []) (marks ++ [])).1 (next element done) in
     record {
       elements = word ++ [];
@@ -141,53 +143,54 @@ taken_front true law word rest bytes marks element is =
       };
     }
 
-taken_title : (strict : Bool) (title : List ℕ) (header : Header) → IsTitle title header
-    → IsTakenTitle strict title header → IsPlain header → IsTakenElement strict title (Plain header ∷ [])
-taken_title true title header is_title taken is_plain = plain header is_title taken is_plain
-taken_title false title header is_title taken is_plain = plain_element header is_title is_plain
+taken_title : (allowed : Spelling) (title : List ℕ) (header : Header) → IsTitle title header
+    → IsTakenTitle allowed title header → IsPlain header → IsTakenElement allowed title (Plain header ∷ [])
+taken_title Shortest title header is_title taken is_plain = plain header is_title taken is_plain
+taken_title Any title header is_title taken is_plain = plain_element header is_title is_plain
 
-taken_whole : (strict : Bool) (kind : Kind) (title body : List ℕ) → IsTitle title (kind_header kind (Some (length body)))
-    → IsTakenTitle strict title (kind_header kind (Some (length body))) → IsWritable kind body
-    → IsTakenElement strict (title ++ body) (Whole kind body ∷ [])
-taken_whole true kind title body is_title taken sound = whole kind is_title taken sound
-taken_whole false kind title body is_title taken sound = string kind (definite is_title) (sound, tt)
+taken_whole : (allowed : Spelling) (kind : Kind) (title body : List ℕ)
+    → IsTitle title (kind_header kind (Some (length body)))
+    → IsTakenTitle allowed title (kind_header kind (Some (length body))) → IsWritable kind body
+    → IsTakenElement allowed (title ++ body) (Whole kind body ∷ [])
+taken_whole Shortest kind title body is_title taken sound = whole kind is_title taken sound
+taken_whole Any kind title body is_title taken sound = string kind (definite is_title) (sound, tt)
 
-taken_open : (strict : Bool) (kind : Kind) (title strings : List ℕ) (bodies : List (List ℕ))
+taken_open : (allowed : Spelling) (kind : Kind) (title strings : List ℕ) (bodies : List (List ℕ))
     → IsTitle title (kind_header kind None) → AreStrings kind strings bodies
-    → AreTakenStrings strict kind strings bodies → AreWritable kind bodies
-    → IsTakenElement strict (title ++ (strings ++ 0xff ∷ [])) (open_marks kind bodies)
-taken_open true kind title strings bodies is_title are taken sound = parts kind is_title taken sound
-taken_open false kind title strings bodies is_title are taken sound = string kind (indefinite is_title are) sound
+    → AreTakenStrings allowed kind strings bodies → AreWritable kind bodies
+    → IsTakenElement allowed (title ++ (strings ++ 0xff ∷ [])) (open_marks kind bodies)
+taken_open Shortest kind title strings bodies is_title are taken sound = parts kind is_title taken sound
+taken_open Any kind title strings bodies is_title are taken sound = string kind (indefinite is_title are) sound
 
-module _ (strict : Bool) (law : StrictLaw strict) (title : List ℕ) where
+module _ (allowed : Spelling) (law : StrictLaw allowed) (title : List ℕ) where
   -- A title that begins no string is an element by itself.
-  title_front : (rest bytes : List ℕ) (header : Header) → IsTitle title header → IsTakenTitle strict title header
-      → IsPlain header → bytes ≡ title ++ rest → BeginsWithElements strict 1 bytes
+  title_front : (rest bytes : List ℕ) (header : Header) → IsTitle title header → IsTakenTitle allowed title header
+      → IsPlain header → bytes ≡ title ++ rest → BeginsWithElements allowed 1 bytes
   title_front rest bytes header is_title taken is_plain is =
-      taken_front strict law title rest bytes (Plain header ∷ [])
-      (taken_title strict title header is_title taken is_plain) is
+      taken_front allowed law title rest bytes (Plain header ∷ [])
+      (taken_title allowed title header is_title taken is_plain) is
 
   whole_front : (kind : Kind) (len : ℕ) (body bytes : List ℕ) → length body ≡ len
-      → IsTitle title (kind_header kind (Some len)) → IsTakenTitle strict title (kind_header kind (Some len))
-      → IsWritable kind body → bytes ≡ title ++ (body ++ []) → BeginsWithElements strict 1 bytes
+      → IsTitle title (kind_header kind (Some len)) → IsTakenTitle allowed title (kind_header kind (Some len))
+      → IsWritable kind body → bytes ≡ title ++ (body ++ []) → BeginsWithElements allowed 1 bytes
   whole_front kind len body bytes long is_title taken sound is =
-      taken_front strict law (title ++ body) [] bytes (Whole kind body ∷ [])
-      (taken_whole strict kind title body
+      taken_front allowed law (title ++ body) [] bytes (Whole kind body ∷ [])
+      (taken_whole allowed kind title body
       (subst (λ (n : ℕ). IsTitle title (kind_header kind (Some n))) (sym long) is_title)
-      (subst (λ (n : ℕ). IsTakenTitle strict title (kind_header kind (Some n))) (sym long) taken) sound)
+      (subst (λ (n : ℕ). IsTakenTitle allowed title (kind_header kind (Some n))) (sym long) taken) sound)
       (is ∙ sym (append_assoc title body []))
 
   open_front : (kind : Kind) (strings bytes : List ℕ) (bodies : List (List ℕ)) → IsTitle title (kind_header kind None)
-      → AreStrings kind strings bodies → AreTakenStrings strict kind strings bodies → AreWritable kind bodies
-      → bytes ≡ title ++ ((strings ++ 0xff ∷ []) ++ []) → BeginsWithElements strict 1 bytes
+      → AreStrings kind strings bodies → AreTakenStrings allowed kind strings bodies → AreWritable kind bodies
+      → bytes ≡ title ++ ((strings ++ 0xff ∷ []) ++ []) → BeginsWithElements allowed 1 bytes
   open_front kind strings bytes bodies is_title are taken sound is =
-      taken_front strict law (title ++ (strings ++ 0xff ∷ [])) [] bytes (open_marks kind bodies)
-      (taken_open strict kind title strings bodies is_title are taken sound)
+      taken_front allowed law (title ++ (strings ++ 0xff ∷ [])) [] bytes (open_marks kind bodies)
+      (taken_open allowed kind title strings bodies is_title are taken sound)
       (is ∙ sym (append_assoc title (strings ++ 0xff ∷ []) []))
 
   item_front : (depth : ℕ) (rest bytes : List ℕ) (header : Header) → IsTitle title header
-      → IsTakenTitle strict title header → Completes strict depth header rest → bytes ≡ title ++ (rest ++ [])
-      → BeginsWithElements strict 1 bytes
+      → IsTakenTitle allowed title header → Completes allowed depth header rest → bytes ≡ title ++ (rest ++ [])
+      → BeginsWithElements allowed 1 bytes
   item_front depth rest bytes header is_title taken positive is =
       title_front (rest ++ []) bytes header is_title taken tt is
   item_front depth rest bytes header is_title taken negative is =
@@ -216,51 +219,51 @@ module _ (strict : Bool) (law : StrictLaw strict) (title : List ℕ) where
       title_front (rest ++ []) bytes header is_title taken tt is
 
 -- An item begins with an element.
-pub first_of : (strict : Bool) → StrictLaw strict → (depth : ℕ) (item : List ℕ) → IsItem strict depth item
-    → BeginsWithElements strict 1 item
-first_of strict law depth item (more_items {title = t} {rest = r} {header = x} is_title taken completes no_items) =
-    item_front strict law t depth r item x is_title taken completes refl
+pub first_of : (allowed : Spelling) → StrictLaw allowed → (depth : ℕ) (item : List ℕ) → IsItem allowed depth item
+    → BeginsWithElements allowed 1 item
+first_of allowed law depth item (more_items {title = t} {rest = r} {header = x} is_title taken completes no_items) =
+    item_front allowed law t depth r item x is_title taken completes refl
 
 -- ---- contents that complete a title
 
-zero_taken : (strict : Bool) → IsTakenTitle strict (0 ∷ []) (h.Positive 0)
-zero_taken true = record { shortest = refl; meant = λ small. small }
-zero_taken false = tt
+zero_taken : (allowed : Spelling) → IsTakenTitle allowed (0 ∷ []) (h.Positive 0)
+zero_taken Shortest = record { shortest = refl; meant = λ small. small }
+zero_taken Any = tt
 
 pub zero_title : IsTitle (0 ∷ []) (h.Positive 0)
 zero_title = numbered Unsigned Small 0 (omega arith)
 
-pub zero_item : (strict : Bool) (depth : ℕ) → IsItem strict depth (0 ∷ [])
-zero_item strict depth = more_items zero_title (zero_taken strict) positive no_items
+pub zero_item : (allowed : Spelling) (depth : ℕ) → IsItem allowed depth (0 ∷ [])
+zero_item allowed depth = more_items zero_title (zero_taken allowed) positive no_items
 
-zeros : (strict : Bool) (depth n : ℕ) → (items : List ℕ) × AreItems strict depth n items
-zeros strict depth zero = ([], no_items)
-zeros strict depth (suc n) =
-    let others = zeros strict depth n in
-    ((0 ∷ []) ++ ([] ++ others.0), more_items zero_title (zero_taken strict) positive others.1)
+zeros : (allowed : Spelling) (depth n : ℕ) → (items : List ℕ) × AreItems allowed depth n items
+zeros allowed depth zero = ([], no_items)
+zeros allowed depth (suc n) =
+    let others = zeros allowed depth n in
+    ((0 ∷ []) ++ ([] ++ others.0), more_items zero_title (zero_taken allowed) positive others.1)
 
-completed : (strict : Bool) (header : Header) → IsPlain header → (header ≡ h.Break → ⊥)
-    → (rest : List ℕ) × Completes strict 1 header rest
-completed strict (h.Positive n) is_plain goes = ([], positive)
-completed strict (h.Negative n) is_plain goes = ([], negative)
-completed strict (h.Float f) is_plain goes = ([], float)
-completed strict (h.Simple n) is_plain goes = ([], simple)
-completed strict (h.Tag n) is_plain goes = let one = zeros strict 0 1 in (one.0, tag one.1)
-completed strict (h.Array (Some n)) is_plain goes = let items = zeros strict 0 n in (items.0, array items.1)
-completed strict (h.Array None) is_plain goes = ([] ++ 0xff ∷ [], open_array no_items)
-completed strict (h.Map (Some n)) is_plain goes = let items = zeros strict 0 (2 * n) in (items.0, pairs items.1)
-completed strict (h.Map None) is_plain goes = ([] ++ 0xff ∷ [], open_pairs 0 no_items)
-completed strict h.Break is_plain goes = absurd (goes refl)
-completed strict (h.Bytes len) is_plain goes = absurd is_plain
-completed strict (h.Text len) is_plain goes = absurd is_plain
+completed : (allowed : Spelling) (header : Header) → IsPlain header → (header ≡ h.Break → ⊥)
+    → (rest : List ℕ) × Completes allowed 1 header rest
+completed allowed (h.Positive n) is_plain goes = ([], positive)
+completed allowed (h.Negative n) is_plain goes = ([], negative)
+completed allowed (h.Float f) is_plain goes = ([], float)
+completed allowed (h.Simple n) is_plain goes = ([], simple)
+completed allowed (h.Tag n) is_plain goes = let one = zeros allowed 0 1 in (one.0, tag one.1)
+completed allowed (h.Array (Some n)) is_plain goes = let items = zeros allowed 0 n in (items.0, array items.1)
+completed allowed (h.Array None) is_plain goes = ([] ++ 0xff ∷ [], open_array no_items)
+completed allowed (h.Map (Some n)) is_plain goes = let items = zeros allowed 0 (2 * n) in (items.0, pairs items.1)
+completed allowed (h.Map None) is_plain goes = ([] ++ 0xff ∷ [], open_pairs 0 no_items)
+completed allowed h.Break is_plain goes = absurd (goes refl)
+completed allowed (h.Bytes len) is_plain goes = absurd is_plain
+completed allowed (h.Text len) is_plain goes = absurd is_plain
 
 -- Some bytes after a title make it an item.
-pub title_item : (strict : Bool) (title : List ℕ) (header : Header) → IsTitle title header
-    → IsTakenTitle strict title header → IsPlain header → (header ≡ h.Break → ⊥)
-    → (rest : List ℕ) × IsItem strict 1 (title ++ rest)
-title_item strict title header is_title taken is_plain goes =
-    let rest = completed strict header is_plain goes in
-    (rest.0, item_of strict 1 title rest.0 header is_title taken rest.1)
+pub title_item : (allowed : Spelling) (title : List ℕ) (header : Header) → IsTitle title header
+    → IsTakenTitle allowed title header → IsPlain header → (header ≡ h.Break → ⊥)
+    → (rest : List ℕ) × IsItem allowed 1 (title ++ rest)
+title_item allowed title header is_title taken is_plain goes =
+    let rest = completed allowed header is_plain goes in
+    (rest.0, item_of allowed 1 title rest.0 header is_title taken rest.1)
 
 -- A break is one byte.
 pub break_long : (title : List ℕ) → IsTitle title h.Break → length title ≡ 1

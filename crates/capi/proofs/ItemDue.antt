@@ -1,8 +1,9 @@
 -- The bytes that an item still lacks, by the state of a checker.
-use Rattle.std.proofs.Common.{◌≡◌, ℕ, Bool, List, [], ◌++◌, length, take, drop, sym, ap, subst}
+use Rattle.std.proofs.Common.{◌≡◌, ℕ, List, [], ◌++◌, length, take, drop, sym, ap, subst}
 use Rattle.std.proofs.Common.{◌∙◌, arith, inl, inr, append_assoc, append-nil, length-append}
 use Rattle.std.proofs.lemmas.Bool.{cases_lt}
 use Rattle.std.proofs.lemmas.List.{take_all, take-append-drop}
+use Rattle.ciborium_ll_grammar.specs.declared.spelling.Spelling.{Spelling}
 use Rattle.ciborium_ll.specs.Items.{IsItem}
 use Rattle.ciborium_ll.proofs.Lists.{front_of_front}
 use Rattle.cbor_checker.specs.declared.progress.Progress.TheVariants as r
@@ -14,14 +15,14 @@ use Rattle.cbor_skip.specs.ItemFaults.{BeginsWithItem}
 use Rattle.capi.specs.Lacking.{ItemLacks}
 
 -- The bytes end within an item, and its other bytes begin `more`.
-pub record IsCutIn (strict : Bool) (depth : ℕ) (bytes more : List ℕ) : Type 0 where
+pub record IsCutIn (allowed : Spelling) (depth : ℕ) (bytes more : List ℕ) : Type 0 where
   pub next : List ℕ
   pub rest : List ℕ
-  pub is_item : IsItem strict depth (bytes ++ next)
+  pub is_item : IsItem allowed depth (bytes ++ next)
   pub is : more ≡ next ++ rest
 
-module _ (strict : Bool) (depth : ℕ) (bytes : List ℕ) (cut : BeginsWithItem strict depth bytes → ⊥) where
-  pub goes_on : (more : List ℕ) → BeginsWithItem strict depth (bytes ++ more) → IsCutIn strict depth bytes more
+module _ (allowed : Spelling) (depth : ℕ) (bytes : List ℕ) (cut : BeginsWithItem allowed depth bytes → ⊥) where
+  pub goes_on : (more : List ℕ) → BeginsWithItem allowed depth (bytes ++ more) → IsCutIn allowed depth bytes more
   goes_on more front =
       elim (cases_lt (length front.item) (length bytes)) [
         | inl less ↦ (
@@ -33,7 +34,7 @@ module _ (strict : Bool) (depth : ℕ) (bytes : List ℕ) (cut : BeginsWithItem 
             record {
               next = f.0;
               rest = front.rest;
-              is_item = subst (IsItem strict depth) f.1 front.is_item;
+              is_item = subst (IsItem allowed depth) f.1 front.is_item;
               is = f.2;
             }
             )
@@ -41,11 +42,11 @@ module _ (strict : Bool) (depth : ℕ) (bytes : List ℕ) (cut : BeginsWithItem 
 
   -- If a checker lacks some bytes, the item lacks them.
   pub some_lack : (taken due : ℕ) (checker : Checker) → taken ≡ length bytes
-      → HasRead strict depth (take taken bytes) checker → Tells strict depth (take taken bytes) (r.More due)
-      → Answers checker (r.More due) → ItemLacks strict depth bytes due
+      → HasRead allowed depth (take taken bytes) checker → Tells allowed depth (take taken bytes) (r.More due)
+      → Answers checker (r.More due) → ItemLacks allowed depth bytes due
   some_lack taken due checker all has_read tells answer =
       let whole : take taken bytes ≡ bytes = take_all taken bytes (omega (arith, all)) in
-      let told = subst (λ (z : List ℕ). Tells strict depth z (r.More due)) whole tells in
+      let told = subst (λ (z : List ℕ). Tells allowed depth z (r.More due)) whole tells in
       record {
         least = λ more front.
             let on = goes_on more front in
@@ -64,27 +65,27 @@ module _ (strict : Bool) (depth : ℕ) (bytes : List ℕ) (cut : BeginsWithItem 
             );
         checker = λ positive. record {
           checker = checker;
-          has_read = subst (λ (z : List ℕ). HasRead strict depth z checker) whole has_read;
+          has_read = subst (λ (z : List ℕ). HasRead allowed depth z checker) whole has_read;
           lacks = answer;
         };
       }
 
   -- If a checker has met a fault, no bytes complete an item.
-  pub none_follow : (taken : ℕ) (fault : Fault) → Tells strict depth (take taken bytes) (r.Fault fault)
-      → ItemLacks strict depth bytes 0
+  pub none_follow : (taken : ℕ) (fault : Fault) → Tells allowed depth (take taken bytes) (r.Fault fault)
+      → ItemLacks allowed depth bytes 0
   none_follow taken fault never = record {
     least = λ more front.
         let on = goes_on more front in
         let parts : bytes ++ on.next ≡ take taken bytes ++ (drop taken bytes ++ on.next) =
         ap (λ (z : List ℕ). z ++ on.next) (sym (take-append-drop taken bytes))
         ∙ append_assoc (take taken bytes) (drop taken bytes) on.next in
-        absurd (never (drop taken bytes ++ on.next, subst (IsItem strict depth) parts on.is_item));
+        absurd (never (drop taken bytes ++ on.next, subst (IsItem allowed depth) parts on.is_item));
     some = λ positive. absurd (omega (arith, positive));
     checker = λ positive. absurd (omega (arith, positive));
   }
 
   -- No item has ended, since none comes first.
-  pub none_ended : (taken len : ℕ) → Tells strict depth (take taken bytes) (r.Ended len) → ⊥
+  pub none_ended : (taken len : ℕ) → Tells allowed depth (take taken bytes) (r.Ended len) → ⊥
   none_ended taken len tells =
       cut (record {
         item = take taken bytes;
@@ -94,10 +95,10 @@ module _ (strict : Bool) (depth : ℕ) (bytes : List ℕ) (cut : BeginsWithItem 
       })
 
 -- If a checker says that an item ended, an item of that length comes first.
-pub ended_in_front : (strict : Bool) (depth : ℕ) (bytes : List ℕ) (taken len : ℕ)
-    → Tells strict depth (take taken bytes) (r.Ended len)
-    → (front : BeginsWithItem strict depth bytes) × (len ≡ length front.item)
-ended_in_front strict depth bytes taken len tells = (
+pub ended_in_front : (allowed : Spelling) (depth : ℕ) (bytes : List ℕ) (taken len : ℕ)
+    → Tells allowed depth (take taken bytes) (r.Ended len)
+    → (front : BeginsWithItem allowed depth bytes) × (len ≡ length front.item)
+ended_in_front allowed depth bytes taken len tells = (
   record {
     item = take taken bytes;
     rest = drop taken bytes;

@@ -1,5 +1,6 @@
 -- The answers of a copier of items, by their numbers.
-use Rattle.std.proofs.Common.{◌≡◌, ◌+◌, ◌<◌, ◌≤◌, Bool, ℕ, List, [], ◌++◌, length, take, refl, sym, ap, subst, ◌∙◌}
+use Rattle.std.proofs.Common.{◌≡◌, ◌+◌, ◌<◌, ◌≤◌, ℕ, List, [], ◌++◌, length, take, refl, sym, ap, subst, ◌∙◌}
+use Rattle.ciborium_ll_grammar.specs.declared.spelling.Spelling.{Spelling}
 use Rattle.cbor_item_copier.specs.declared.copier.ItemCopier.{ItemCopier}
 use Rattle.cbor_item_copier.specs.declared.progress.Copied.{Copied}
 use Rattle.cbor_item_copier.specs.declared.progress.Progress.{Progress}
@@ -20,7 +21,7 @@ use Rattle.capi.specs.ItemPieces.{SaysOfItemEnd, item_answer, item_end_answer, i
 
 -- ---- a piece
 
-says : (progress : Progress) (s : Bool) (d : ℕ) (whole output : List ℕ) → Tells s d whole output progress
+says : (progress : Progress) (s : Spelling) (d : ℕ) (whole output : List ℕ) → Tells s d whole output progress
     → SaysOfItem s d whole output (item_answer progress) (item_number progress)
 says (r.Ended len) s d whole output told = told
 says (r.More due) s d whole output told = told
@@ -58,7 +59,7 @@ room_room (r.Fault (f.Deep place)) is = absurd cc
 room_room r.TooLong is = absurd cc
 
 -- The relation of a feed follows from the answer and the report of the copier.
-module _ (s : Bool) (d : ℕ) (read written bytes out output : List ℕ) (copied : Copied) (number : ℕ)
+module _ (s : Spelling) (d : ℕ) (read written bytes out output : List ℕ) (copied : Copied) (number : ℕ)
     (answer : CllAnswer) (report : CllReport) (old now : ItemCopier) where
   pub feeds : (new : CllItemCopier) → HasCopied s d read written old
       → HasCopied s d (read ++ take copied.taken bytes) (written ++ take copied.written output) now
@@ -115,7 +116,7 @@ module _ (s : Bool) (d : ℕ) (read written bytes out output : List ℕ) (copied
 
 -- ---- an end
 
-says_end : (end : End) (s : Bool) (d : ℕ) (whole output : List ℕ) → TellsEnd s d whole output end
+says_end : (end : End) (s : Spelling) (d : ℕ) (whole output : List ℕ) → TellsEnd s d whole output end
     → SaysOfItemEnd s d whole output (item_end_answer end) (item_end_number end)
 says_end e.Between s d whole output told = (told, refl)
 says_end (e.Short due) s d whole output told = told
@@ -125,7 +126,7 @@ says_end (e.Fault (f.Break place)) s d whole output told = told
 says_end (e.Fault (f.Deep place)) s d whole output told = told
 
 -- The relation of an end follows from the end and the report.
-pub ends : (s : Bool) (d : ℕ) (read written : List ℕ) (end : End) (number : ℕ) (answer : CllAnswer)
+pub ends : (s : Spelling) (d : ℕ) (read written : List ℕ) (end : End) (number : ℕ) (answer : CllAnswer)
     (report : CllReport) (now : ItemCopier) → HasCopied s d read written now → AnswersEnd now end
     → TellsEnd s d read written end → answer ≡ item_end_answer end → number ≡ item_end_number end
     → Reports report 0 0 number → EndsItem s d read written answer report

@@ -1,5 +1,7 @@
 -- A fresh decoder over a reader that tells its bytes, and the title with which they begin.
-use Rattle.std.proofs.Common.{◌≡◌, ℕ, IsTrue, List, Some, length, subst, sym, ap, refl, Bool, false, ◌∙◌, ◌↔◌, arith}
+use Rattle.std.proofs.Common.{◌≡◌, ℕ, IsTrue, List, Some, length, subst, sym, ap, refl, ◌∙◌, ◌↔◌, arith}
+use Rattle.ciborium_ll_grammar.specs.declared.spelling.Spelling.{Spelling}
+use Rattle.ciborium_ll_grammar.specs.declared.spelling.Spelling.TheVariants.{Any}
 use Rattle.ciborium_ll.specs.Types.Read.{Ghosts}
 use Rattle.ciborium_ll.specs.Types.Header.{Header}
 use Rattle.ciborium_ll.specs.Types.Decoder.{Decoder}
@@ -88,8 +90,8 @@ pulled_exactly bytes a.KeyOrder old new consumed result is pulled = absurd pulle
 pulled_exactly bytes a.DuplicateKey old new consumed result is pulled = absurd pulled
 pulled_exactly bytes a.Absent old new consumed result is pulled = absurd pulled
 
-module _ {R E : Type 0} (source : Ghosts R E) (strict : Bool) (reader : R) (decoder : Decoder R)
-    (fresh : IsFreshAs strict reader 0 decoder) where
+module _ {R E : Type 0} (source : Ghosts R E) (allowed : Spelling) (reader : R) (decoder : Decoder R)
+    (fresh : IsFreshAs allowed reader 0 decoder) where
   -- All bytes that the reader has ahead are due.
   pub due_ahead : (due : List ℕ) → source.ahead reader ≡ Some due → view source decoder ≡ Some due
   due_ahead due ahead =
@@ -102,10 +104,10 @@ module _ {R E : Type 0} (source : Ghosts R E) (strict : Bool) (reader : R) (deco
 module _ {R E : Type 0} (source : Ghosts R E) where
   pub pulled_front : (reader : R) (due : List ℕ) (header : Header) (old new : Decoder R) (parts : CllHeader)
       (consumed : ℕ) → consumed ≡ new.offset → PullsTitle source old header new
-      → IsFreshAs false reader 0 old → source.ahead reader ≡ Some due → Says parts header
+      → IsFreshAs Any reader 0 old → source.ahead reader ≡ Some due → Says parts header
       → (front : BeginsWithTitle due) × Says parts front.header × (consumed ≡ length front.title)
   pulled_front reader due header old new parts consumed behind pulled fresh ahead says =
-      let told = due_ahead source false reader old fresh due ahead in
+      let told = due_ahead source Any reader old fresh due ahead in
       let gone = consumes_told _ _ due pulled.title told pulled.bytes in (
         record { title = pulled.title; header = header; rest = gone.0; is_title = pulled.is_title; is = gone.2 },
         says,

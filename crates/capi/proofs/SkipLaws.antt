@@ -1,11 +1,13 @@
 -- The result of a skip by a fresh decoder, as a fact of the bytes ahead.
-use Rattle.std.proofs.Common.{◌≡◌, ℕ, ◌+◌, ◌<◌, ◌∙◌, ◌↔◌, IsTrue, IsOk, Bool, false, List, length, Result, Ok, Err}
+use Rattle.std.proofs.Common.{◌≡◌, ℕ, ◌+◌, ◌<◌, ◌∙◌, ◌↔◌, IsTrue, IsOk, List, length, Result, Ok, Err}
 use Rattle.std.proofs.Common.{Some, ap, sym, subst, refl, arith}
+use Rattle.ciborium_ll_grammar.specs.declared.spelling.Spelling.{Spelling}
+use Rattle.ciborium_ll_grammar.specs.declared.spelling.Spelling.TheVariants.{Any}
 use Rattle.ciborium_ll.specs.Types.Read.{Ghosts}
 use Rattle.ciborium_ll.specs.Types.Decoder.{Decoder}
 use Rattle.ciborium_ll.specs.Types.Error.TheVariants as e
 use Rattle.ciborium_ll.specs.Faults.{Syntax}
-use Rattle.ciborium_ll.specs.Decoding.{IsFresh, offset_limit, strict_of}
+use Rattle.ciborium_ll.specs.Decoding.{IsFresh, offset_limit, spelling_of}
 use Rattle.cbor_skip.specs.declared.SkipError.{SkipError}
 use Rattle.cbor_skip.specs.declared.SkipError.TheVariants as s
 use Rattle.cbor_skip.specs.ItemFaults.{BeginsWithItem}
@@ -23,14 +25,14 @@ module _ {R E : Type 0} (source : Ghosts R E) where
       → length due + 8 < offset_limit → length due + room < offset_limit → IsReadyToSkip source room decoder due
   ready_to_skip room reader decoder due fresh steady ahead title chunk = record {
     none_waits = λ on. fresh.none_waits;
-    steady = still_steady source false reader decoder fresh steady;
-    told = due_ahead source false reader decoder fresh due ahead;
+    steady = still_steady source Any reader decoder fresh steady;
+    told = due_ahead source Any reader decoder fresh due ahead;
     fits-title = omega (arith, fresh.offset, title);
     fits-chunk = omega (arith, fresh.offset, chunk);
   }
 
   pub skip_reported : (depth : ℕ) (due : List ℕ) (old new : Decoder R) (result : Result (Unit {0}) (SkipError E))
-      (report : CllReport) → SkipsTold source false depth due old result new → old.offset ≡ 0
+      (report : CllReport) → SkipsTold source Any depth due old result new → old.offset ≡ 0
       → Reports report new.offset 0 (skip_place result) → Skips depth due (skip_answer result) report
   skip_reported depth due old new (Ok done) report told start reports = (
     told.front,
@@ -96,12 +98,12 @@ module _ {R E : Type 0} (source : Ghosts R E) where
 
   pub skip_said : (depth : ℕ) (due : List ℕ) (old new : Decoder R) (result : Result (Unit {0}) (SkipError E))
       (report : CllReport) (answer : CllAnswer) (place count : ℕ)
-      → SkipsTold source (strict_of old) depth due old result new
-      → strict_of old ≡ false → old.offset ≡ 0 → answer ≡ skip_answer result → place ≡ skip_place result
+      → SkipsTold source (spelling_of old) depth due old result new
+      → spelling_of old ≡ Any → old.offset ≡ 0 → answer ≡ skip_answer result → place ≡ skip_place result
       → count ≡ new.offset
       → Reports report count 0 place → Skips depth due answer report
   skip_said depth due old new result report answer place count told mode start same named behind reports =
-      let lenient = subst (λ (b : Bool). SkipsTold source b depth due old result new) mode told in
+      let lenient = subst (λ (b : Spelling). SkipsTold source b depth due old result new) mode told in
       let said = skip_reported depth due old new result report lenient start record {
         consumed_is = reports.consumed_is ∙ behind;
         written_is = reports.written_is;
@@ -123,10 +125,11 @@ skip_answers_ok (Err (s.Read e.Waiting)) = (λ same. absurd cc, λ ok. absurd cc
 skip_answers_ok (Err (s.Break place)) = (λ same. absurd cc, λ ok. absurd cc)
 skip_answers_ok (Err (s.Deep place)) = (λ same. absurd cc, λ ok. absurd cc)
 
-pub skip_exactly : {E : Type 0} (strict : Bool) (depth : ℕ) (due : List ℕ) (result : Result (Unit {0}) (SkipError E))
-    (answer : CllAnswer) → answer ≡ skip_answer result → IsOk result ↔ BeginsWithItem strict depth due → strict ≡ false
-    → (answer ≡ a.Ok) ↔ BeginsWithItem false depth due
-skip_exactly strict depth due result answer same exact mode =
+pub skip_exactly : {E : Type 0} (allowed : Spelling) (depth : ℕ) (due : List ℕ)
+    (result : Result (Unit {0}) (SkipError E))
+    (answer : CllAnswer) → answer ≡ skip_answer result → IsOk result ↔ BeginsWithItem allowed depth due → allowed ≡ Any
+    → (answer ≡ a.Ok) ↔ BeginsWithItem Any depth due
+skip_exactly allowed depth due result answer same exact mode =
     let ok = skip_answers_ok result in
-    let lenient = subst (λ (b : Bool). IsOk result ↔ BeginsWithItem b depth due) mode exact in
+    let lenient = subst (λ (b : Spelling). IsOk result ↔ BeginsWithItem b depth due) mode exact in
     (λ is. lenient.0 (ok.0 (sym same ∙ is)), λ holds. same ∙ ok.1 (lenient.1 holds))

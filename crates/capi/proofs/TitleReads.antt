@@ -4,6 +4,7 @@ use Rattle.std.proofs.Common.{refl, sym, ap, subst, ◌∙◌, arith, append_ass
 use Rattle.std.proofs.lemmas.List.{drop_at, length-take-le, take-append-drop}
 use Rattle.ciborium_ll.specs.Types.Header.{Header}
 use Rattle.ciborium_ll.specs.Types.Header.TheVariants as h
+use Rattle.ciborium_ll_grammar.specs.declared.spelling.Spelling.TheVariants.{Any}
 use Rattle.ciborium_ll_grammar.specs.Title.{IsTitle}
 use Rattle.ciborium_ll_grammar.specs.Strings.{Kind, Text}
 use Rattle.ciborium_ll_grammar.specs.Items.{AreItems, Completes, more_items}
@@ -41,7 +42,7 @@ no_body : (header : Header) (bytes : List ℕ) → IsBody header [] → BodyInFr
 no_body header bytes none = record { body = []; rest = bytes; is_body = none; is = refl }
 
 -- What completes a header begins with its body.
-body_in : (depth : ℕ) (header : Header) (bytes : List ℕ) → Completes false depth header bytes
+body_in : (depth : ℕ) (header : Header) (bytes : List ℕ) → Completes Any depth header bytes
     → BodyInFront header bytes
 body_in depth header bytes positive = no_body header bytes refl
 body_in depth header bytes negative = no_body header bytes refl
@@ -65,7 +66,7 @@ joined_parts : (title body inner others rest : List ℕ)
 joined_parts title body inner others rest = simp append_assoc
 
 -- Items begin with a title and its body.
-items_begin : (depth count : ℕ) (items rest : List ℕ) → AreItems false depth (suc count) items
+items_begin : (depth count : ℕ) (items rest : List ℕ) → AreItems Any depth (suc count) items
     → BeginsWithBody (items ++ rest)
 items_begin depth count items rest
     (more_items {title = title} {rest = inner} {others = others} {header = header} is_title taken completes behind) =
@@ -83,7 +84,7 @@ items_begin depth count items rest
     }
 
 -- Bytes that begin with an item begin with a title and its body.
-pub item_begins : (depth : ℕ) (bytes : List ℕ) → BeginsWithItem false depth bytes → BeginsWithBody bytes
+pub item_begins : (depth : ℕ) (bytes : List ℕ) → BeginsWithItem Any depth bytes → BeginsWithBody bytes
 item_begins depth bytes front =
     subst BeginsWithBody (sym front.is) (items_begin depth zero front.item front.rest front.is_item)
 
@@ -94,14 +95,14 @@ bare_begins title rest header is_title none =
     record { title = title; body = []; rest = rest; header = header; is_title = is_title; is_body = none; is = refl }
 
 -- A break that stands in place of the first item is a title.
-break_begins : (bytes before rest : List ℕ) (levels : ℕ) → ItemDue false false 0 before levels false
+break_begins : (bytes before rest : List ℕ) (levels : ℕ) → ItemDue Any false 0 before levels false
     → bytes ≡ before ++ 0xff ∷ rest → BeginsWithBody bytes
 break_begins bytes before rest levels here is =
     subst BeginsWithBody (sym is) (bare_begins (0xff ∷ []) rest h.Break break_title refl)
 
 -- A nest for which there are no levels at all begins with its title.
 nest_begins : (header : Header) (bytes before title rest : List ℕ) (closable : Bool)
-    → ItemDue false false 0 before 0 closable → IsTitle title header → IsNest header
+    → ItemDue Any false 0 before 0 closable → IsTitle title header → IsNest header
     → bytes ≡ before ++ (title ++ rest) → BeginsWithBody bytes
 nest_begins (h.Tag number) bytes before title rest closable here is_title nest is =
     subst BeginsWithBody (sym is) (bare_begins title rest _ is_title refl)
@@ -121,13 +122,13 @@ nest_begins h.Break bytes before title rest closable due is_title nest is = absu
 
 -- The place of a fault lies within the bytes.
 place_reached : (before : List ℕ) (kind : Kind) (len start : ℕ)
-    → ReachesItem false 0 before (BodyDue kind len start) → start ≤ length before
+    → ReachesItem Any 0 before (BodyDue kind len start) → start ≤ length before
 place_reached before kind len start (at_body {bytes = bytes} {title = title} mine reach is_title taken) = omega arith
 place_reached before kind len start (at_piece {bytes = bytes} {title = title} reach is_title taken) =
     omega (arith, length-append bytes title)
 
 place_within : (before ahead written : List ℕ) (point : Point) (answer : Answer) (place consumed : ℕ)
-    → ReachesItem false 0 before point → FirstFault false before [] point ahead answer written consumed
+    → ReachesItem Any 0 before point → FirstFault Any before [] point ahead answer written consumed
     → answer ≡ Syntax place → place ≤ length before
 place_within before ahead written point answer place consumed reach (CutTitle at cut) is = absurd cc
 place_within before ahead written point answer place consumed reach (NoTitle at refused) is =
@@ -151,7 +152,7 @@ place_within before ahead written point answer place consumed reach
 -- A skip finds a fault there.
 module _ (rest : List ℕ) (none : BeginsWithBody rest → ⊥) where
   -- No item comes first.
-  pub no_item : (depth : ℕ) → BeginsWithItem false depth rest → ⊥
+  pub no_item : (depth : ℕ) → BeginsWithItem Any depth rest → ⊥
   no_item depth front = none (item_begins depth rest front)
 
   -- If the bytes are not cut off, they are not of the grammar.
@@ -194,13 +195,13 @@ module _ (rest : List ℕ) (none : BeginsWithBody rest → ⊥) where
 
 -- The bytes are cut off.
 pub stops_short : (bytes : List ℕ) (taken filled : ℕ) (told report : CllReport) (due : ℕ)
-    → Skips 0 (drop taken bytes) a.Short told → ItemLacks false 1 (drop taken bytes) due
+    → Skips 0 (drop taken bytes) a.Short told → ItemLacks Any 1 (drop taken bytes) due
     → Reports report taken filled due → StopsAt bytes taken filled a.Short report
 stops_short bytes taken filled told report due skips lacks reports =
     let same : report.place ≡ due = reports.place_is in (
       skips.0,
       skips.1,
-      subst (ItemLacks false 1 (drop taken bytes)) (sym same) lacks,
+      subst (ItemLacks Any 1 (drop taken bytes)) (sym same) lacks,
       subst (λ (n : ℕ). Reports report taken filled n) (sym same) reports,
     )
 

@@ -1,7 +1,8 @@
 -- The parts of an item in memory.
-use Rattle.std.proofs.Common.{◌≡◌, ◌≢◌, ◌<◌, ◌+◌, ◌∙◌, ℕ, false, List, [], ◌++◌, length, Option, MatchOption}
+use Rattle.std.proofs.Common.{◌≡◌, ◌≢◌, ◌<◌, ◌+◌, ◌∙◌, ℕ, List, [], ◌++◌, length, Option, MatchOption}
 use Rattle.std.proofs.Common.{Some, None, ap, sym, subst, arith, append-nil}
 use denote.Ref.{Bor}
+use Rattle.ciborium_ll_grammar.specs.declared.spelling.Spelling.TheVariants.{Any}
 use Rattle.ciborium_ll_grammar.specs.declared.hdr.Header.{Header}
 use Rattle.ciborium_ll_grammar.specs.declared.hdr.Header.TheVariants as h
 use Rattle.ciborium_ll_grammar.specs.Items.{IsItem}
@@ -24,10 +25,10 @@ use Rattle.capi.specs.Viewing.{AreWithin, Finds, HasWithin, IsView}
 -- ---- an item
 
 -- The bytes of an item and more bytes are not one item.
-pub no_view : (item : CllItem) (first rest : List ℕ) → item.bytes.now ≡ first ++ rest → IsItem false item.depth first
+pub no_view : (item : CllItem) (first rest : List ℕ) → item.bytes.now ≡ first ++ rest → IsItem Any item.depth first
     → 0 < length rest → IsView item → ⊥
 no_view item first rest whole is_item more view =
-    let one = one_item false false item.depth item.depth first item.bytes.now rest [] is_item view.is_item
+    let one = one_item Any Any item.depth item.depth first item.bytes.now rest [] is_item view.is_item
     (sym whole ∙ sym (append-nil item.bytes.now)) in
     absurd (omega (arith, more, ap (length {A = ℕ}) one.1))
 

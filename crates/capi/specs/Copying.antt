@@ -1,5 +1,6 @@
 -- The result of `cll_recode`.
-use Rattle.std.specs.Prelude.{◌≡◌, ℕ, false, ◌+◌, ◌<◌, ◌≤◌, ◌⊎◌, List, ◌++◌, drop, length, Result, Ok, Err}
+use Rattle.std.specs.Prelude.{◌≡◌, ℕ, ◌+◌, ◌<◌, ◌≤◌, ◌⊎◌, List, ◌++◌, drop, length, Result, Ok, Err}
+use Rattle.ciborium_ll_grammar.specs.declared.spelling.Spelling.TheVariants.{Any}
 use Rattle.ciborium_ll.specs.Types.Error.TheVariants as e
 use Rattle.ciborium_ll.specs.Types.RecodeError.{RecodeError}
 use Rattle.ciborium_ll.specs.Types.RecodeError.TheVariants as r
@@ -15,7 +16,7 @@ use Rattle.capi.specs.Answers.{ReportsCopy}
 -- element in `18 17 19` it is 1 or more.
 abbrev pub HasRoom : ℕ → List ℕ → ℕ → Type 0
 HasRoom count bytes room =
-    ((front : BeginsWithElements false count bytes) × (length (spelling front.marks) ≤ room)) ⊎ (length bytes ≤ room)
+    ((front : BeginsWithElements Any count bytes) × (length (spelling front.marks) ≤ room)) ⊎ (length bytes ≤ room)
 
 -- The output begins with the bytes, and after them it is as it was. With `17` the output `00 00` becomes `17 00`.
 abbrev pub StandAtStart : List ℕ → List ℕ → List ℕ → Type 0
@@ -25,14 +26,14 @@ StandAtStart bytes old new = new ≡ bytes ++ drop (length bytes) old
 -- For one element `18 17` the output begins with `17`.
 abbrev pub OutputsElements : ℕ → List ℕ → List ℕ → List ℕ → CllReport → Type 0
 OutputsElements count bytes old new report =
-    (front : BeginsWithElements false count bytes) × StandAtStart (spelling front.marks) old new
+    (front : BeginsWithElements Any count bytes) × StandAtStart (spelling front.marks) old new
     × ReportsCopy report (length front.elements) (length (spelling front.marks)) 0
 
 -- The first fault stopped the copy at this place. The bytes that were written before the fault stand in the output. A
 -- copy of two elements of `18 17 1c` stops at 2, after `17` was written.
 abbrev pub OutputsUpToFault : ℕ → List ℕ → List ℕ → List ℕ → CllReport → Type 0
 OutputsUpToFault count bytes old new report =
-    (fault : HasFault false count bytes) × (fault.answer ≡ Syntax report.place) × StandAtStart fault.written old new
+    (fault : HasFault Any count bytes) × (fault.answer ≡ Syntax report.place) × StandAtStart fault.written old new
     × ReportsCopy report (length fault.before + fault.consumed) (length fault.written) report.place
 
 -- The result of `cll_recode` with enough room, by its answer. If the bytes do not begin with `count` elements, the
@@ -41,7 +42,7 @@ OutputsUpToFault count bytes old new report =
 abbrev pub CopiesInto : ℕ → List ℕ → List ℕ → CllAnswer → List ℕ → CllReport → Type 0
 CopiesInto count bytes old a.Ok new report = OutputsElements count bytes old new report
 CopiesInto count bytes old a.Short new report =
-    (fault : HasFault false count bytes) × (fault.answer ≡ Short) × StandAtStart fault.written old new
+    (fault : HasFault Any count bytes) × (fault.answer ≡ Short) × StandAtStart fault.written old new
     × ReportsCopy report (length fault.before + fault.consumed) (length fault.written) report.place
 CopiesInto count bytes old a.Syntax new report = OutputsUpToFault count bytes old new report
 CopiesInto count bytes old answer new report = ⊥

@@ -1,5 +1,6 @@
 -- The elements that `cll_recode` and `cll_strict` count, each an element of the grammar (RFC 7049, 2.1 and 2.2).
-use Rattle.std.specs.Prelude.{◌≡◌, ℕ, suc, true, false, ◌<◌, ◌≤◌, List, length, take, Result, Ok, Err}
+use Rattle.std.specs.Prelude.{◌≡◌, ℕ, suc, ◌<◌, ◌≤◌, List, length, take, Result, Ok, Err}
+use Rattle.ciborium_ll_grammar.specs.declared.spelling.Spelling.TheVariants.{Any, Shortest}
 use Rattle.ciborium_ll.specs.Types.Read.{Ghosts as Reader}
 use Rattle.ciborium_ll.specs.Types.Write.{Ghosts as Writer}
 use Rattle.ciborium_ll.specs.Types.RecodeError.{RecodeError}
@@ -18,16 +19,16 @@ abbrev pub CountsTo : ℕ → List ℕ → ℕ → CllAnswer → CllReport → T
 CountsTo count bytes room a.Ok report = (report.elements ≡ count) × (report.whole ≡ report.consumed)
 CountsTo count bytes room a.Room report =
     (report.elements < count)
-    × ((more : BeginsWithElements false (suc report.elements) bytes) → room < length (spelling more.marks))
+    × ((more : BeginsWithElements Any (suc report.elements) bytes) → room < length (spelling more.marks))
 CountsTo count bytes room answer report =
-    (report.elements < count) × (BeginsWithElements false (suc report.elements) bytes → ⊥)
+    (report.elements < count) × (BeginsWithElements Any (suc report.elements) bytes → ⊥)
 
 -- The count of `cll_recode`. The bytes begin with the elements that were done, up to the offset that is reported. The
 -- output begins with their spelling, which has the length that is reported, and was written. For two elements in
 -- `18 17 19` one is done, up to 2, with 1 byte of spelling.
 pub record CountsElements (count : ℕ) (bytes : List ℕ) (room : ℕ) (answer : CllAnswer) (output : List ℕ)
     (report : CllReport) : Type 0 where
-  pub front : BeginsWithElements false report.elements bytes
+  pub front : BeginsWithElements Any report.elements bytes
   pub ends : report.whole ≡ length front.elements
   pub stands : take report.spelled output ≡ spelling front.marks
   pub spelled : report.spelled ≡ length (spelling front.marks)
@@ -39,12 +40,12 @@ pub record CountsElements (count : ℕ) (bytes : List ℕ) (room : ℕ) (answer 
 abbrev pub CountsStrictTo : ℕ → List ℕ → CllAnswer → CllReport → Type 0
 CountsStrictTo count bytes a.Ok report = (report.elements ≡ count) × (report.whole ≡ report.consumed)
 CountsStrictTo count bytes answer report =
-    (report.elements < count) × (BeginsWithElements true (suc report.elements) bytes → ⊥)
+    (report.elements < count) × (BeginsWithElements Shortest (suc report.elements) bytes → ⊥)
 
 -- The count of `cll_strict`: that of elements in their shortest spelling, with nothing written (RFC 7049, 3.9). For two
 -- elements in `41 01 18 17` one is done, up to 2.
 pub record CountsStrictly (count : ℕ) (bytes : List ℕ) (answer : CllAnswer) (report : CllReport) : Type 0 where
-  pub front : BeginsWithElements true report.elements bytes
+  pub front : BeginsWithElements Shortest report.elements bytes
   pub ends : report.whole ≡ length front.elements
   pub none_spelled : report.spelled ≡ 0
   pub counts : CountsStrictTo count bytes answer report

@@ -1,5 +1,6 @@
 -- The results of the calls of a checker. C keeps the checker in memory of its own.
-use Rattle.std.specs.Prelude.{◌≡◌, ◌<◌, ◌≤◌, Bool, ℕ, List, [], ◌++◌, length, take}
+use Rattle.std.specs.Prelude.{◌≡◌, ◌<◌, ◌≤◌, ℕ, List, [], ◌++◌, length, take}
+use Rattle.ciborium_ll_grammar.specs.declared.spelling.Spelling.{Spelling}
 use Rattle.cbor_checker.specs.declared.phase.Fault.{Fault}
 use Rattle.cbor_checker.specs.declared.phase.Fault.TheVariants as f
 use Rattle.cbor_checker.specs.declared.progress.Progress.{Progress}
@@ -15,12 +16,12 @@ use Rattle.capi.specs.declared.answer.CllReport.{CllReport}
 use Rattle.capi.specs.declared.checker.CllChecker.{CllChecker}
 use Rattle.capi.specs.Answers.{Reports}
 
--- This memory holds a checker of an item to the depth, which has read exactly these bytes. With `strict` the item is one
--- in its shortest spelling. The mark is "ciborium" in ASCII. After `cll_checker_feed` took `82 01`, it holds a checker
--- that has read `82 01`.
-pub record IsKept (strict : Bool) (depth : ℕ) (read : List ℕ) (checker : CllChecker) : Type 0 where
+-- This memory holds a checker of an item to the depth, which has read exactly these bytes. For `Shortest` the item is
+-- one in its shortest spelling. The mark is "ciborium" in ASCII. After `cll_checker_feed` took `82 01`, it holds a
+-- checker that has read `82 01`.
+pub record IsKept (allowed : Spelling) (depth : ℕ) (read : List ℕ) (checker : CllChecker) : Type 0 where
   pub mark : checker.mark ≡ 7163364913109890413
-  pub state : Keeps strict depth read checker.state
+  pub state : Keeps allowed depth read checker.state
 
 -- This memory holds a checker, even if no bytes lead to its state. With the mark 0 it does not.
 pub record IsChecker (checker : CllChecker) : Type 0 where
@@ -31,10 +32,10 @@ pub record IsChecker (checker : CllChecker) : Type 0 where
 abbrev pub IsNoChecker : CllChecker → Type 0
 IsNoChecker checker = IsChecker checker → ⊥
 
--- This memory holds a checker of an item to the depth, which has read no byte. With `strict` the item is one in its
+-- This memory holds a checker of an item to the depth, which has read no byte. For `Shortest` the item is one in its
 -- shortest spelling. Without a byte `cll_checker_end` says `Ok` of it.
-abbrev pub IsSetUp : Bool → ℕ → CllChecker → Type 0
-IsSetUp strict depth checker = IsKept strict depth [] checker
+abbrev pub IsSetUp : Spelling → ℕ → CllChecker → Type 0
+IsSetUp allowed depth checker = IsKept allowed depth [] checker
 
 -- The answer that stands for a fault. The break of `81 ff` has `BreakDue`.
 abbrev pub fault_answer : Fault → CllAnswer
@@ -89,14 +90,14 @@ IsEndAnswer answer number checker =
 -- The meaning of an answer and its number for all bytes so far. They are one item of this length. Or at least this many
 -- more bytes are due. Or no item begins so, with a fault at this place (RFC 7049, 2.1 to 2.4). After `43 01` the answer
 -- is `Short` with 2.
-abbrev pub SaysOf : Bool → ℕ → List ℕ → CllAnswer → ℕ → Type 0
-SaysOf strict depth whole a.Ok number = Tells strict depth whole (r.Ended number)
-SaysOf strict depth whole a.Short number = Tells strict depth whole (r.More number)
-SaysOf strict depth whole a.Syntax number = Tells strict depth whole (r.Fault (f.Syntax number))
-SaysOf strict depth whole a.BreakDue number = Tells strict depth whole (r.Fault (f.Break number))
-SaysOf strict depth whole a.TooDeep number = Tells strict depth whole (r.Fault (f.Deep number))
-SaysOf strict depth whole a.TooLong number = Tells strict depth whole r.TooLong × (number ≡ 0)
-SaysOf strict depth whole answer number = ⊥
+abbrev pub SaysOf : Spelling → ℕ → List ℕ → CllAnswer → ℕ → Type 0
+SaysOf allowed depth whole a.Ok number = Tells allowed depth whole (r.Ended number)
+SaysOf allowed depth whole a.Short number = Tells allowed depth whole (r.More number)
+SaysOf allowed depth whole a.Syntax number = Tells allowed depth whole (r.Fault (f.Syntax number))
+SaysOf allowed depth whole a.BreakDue number = Tells allowed depth whole (r.Fault (f.Break number))
+SaysOf allowed depth whole a.TooDeep number = Tells allowed depth whole (r.Fault (f.Deep number))
+SaysOf allowed depth whole a.TooLong number = Tells allowed depth whole r.TooLong × (number ≡ 0)
+SaysOf allowed depth whole answer number = ⊥
 
 -- The call consumed no more bytes than there are, and wrote nothing, whatever the memory of the checker held. From
 -- `01 02` it consumed at most 2.
@@ -109,31 +110,32 @@ pub record TakesWithin (bytes : List ℕ) (report : CllReport) : Type 0 where
 -- be counted. The answer holds for all bytes so far (RFC 7049, 2.1 to 2.4). `answers`: unless no more can be counted,
 -- the answer and its number are those of any checker that has read the same bytes. After `43 01` the piece `02 03 04` is
 -- `Ok` with 4, and 2 bytes of it are consumed.
-pub record Feeds (strict : Bool) (depth : ℕ) (read bytes : List ℕ) (answer : CllAnswer) (report : CllReport)
+pub record Feeds (allowed : Spelling) (depth : ℕ) (read bytes : List ℕ) (answer : CllAnswer) (report : CllReport)
     (new : CllChecker) : Type 0 where
   pub taken : report.consumed ≤ length bytes
-  pub goes : (len : ℕ) → len < report.consumed → GoesOn strict depth (read ++ take len bytes)
+  pub goes : (len : ℕ) → len < report.consumed → GoesOn allowed depth (read ++ take len bytes)
   pub all : answer ≡ a.Short → report.consumed ≡ length bytes
   pub long : answer ≡ a.TooLong → report.consumed < length bytes
   pub reports : Reports report report.consumed 0 report.place
-  pub says : SaysOf strict depth (read ++ take report.consumed bytes) answer report.place
-  pub is_kept : IsKept strict depth (read ++ take report.consumed bytes) new
+  pub says : SaysOf allowed depth (read ++ take report.consumed bytes) answer report.place
+  pub is_kept : IsKept allowed depth (read ++ take report.consumed bytes) new
   pub answers : (answer ≡ a.TooLong → ⊥) → (checker : Checker)
-      → HasRead strict depth (read ++ take report.consumed bytes) checker → IsAnswer answer report.place checker
+      → HasRead allowed depth (read ++ take report.consumed bytes) checker → IsAnswer answer report.place checker
 
 -- The meaning of an answer and its number if no more bytes come: none came or they are one item, they are cut off, or
 -- no item begins so. After `43 01` it is `Short` with 2, and without a byte `Ok` with 0.
-abbrev pub SaysOfEnd : Bool → ℕ → List ℕ → CllAnswer → ℕ → Type 0
-SaysOfEnd strict depth whole a.Ok number = TellsEnd strict depth whole e.Between × (number ≡ 0)
-SaysOfEnd strict depth whole a.Short number = TellsEnd strict depth whole (e.Short number)
-SaysOfEnd strict depth whole a.Syntax number = TellsEnd strict depth whole (e.Fault (f.Syntax number))
-SaysOfEnd strict depth whole a.BreakDue number = TellsEnd strict depth whole (e.Fault (f.Break number))
-SaysOfEnd strict depth whole a.TooDeep number = TellsEnd strict depth whole (e.Fault (f.Deep number))
-SaysOfEnd strict depth whole answer number = ⊥
+abbrev pub SaysOfEnd : Spelling → ℕ → List ℕ → CllAnswer → ℕ → Type 0
+SaysOfEnd allowed depth whole a.Ok number = TellsEnd allowed depth whole e.Between × (number ≡ 0)
+SaysOfEnd allowed depth whole a.Short number = TellsEnd allowed depth whole (e.Short number)
+SaysOfEnd allowed depth whole a.Syntax number = TellsEnd allowed depth whole (e.Fault (f.Syntax number))
+SaysOfEnd allowed depth whole a.BreakDue number = TellsEnd allowed depth whole (e.Fault (f.Break number))
+SaysOfEnd allowed depth whole a.TooDeep number = TellsEnd allowed depth whole (e.Fault (f.Deep number))
+SaysOfEnd allowed depth whole answer number = ⊥
 
 -- The result of `cll_checker_end`: the answer holds for all bytes (RFC 7049, 2.1 to 2.4). `answers`: the answer and its
 -- number are those of any checker that has read the same bytes. After `19 01` it is `Short` with 1.
-pub record EndsFed (strict : Bool) (depth : ℕ) (read : List ℕ) (answer : CllAnswer) (report : CllReport) : Type 0 where
-  pub says : SaysOfEnd strict depth read answer report.place
-  pub answers : (checker : Checker) → HasRead strict depth read checker → IsEndAnswer answer report.place checker
-  pub reports : Reports report 0 0 report.place
+pub record EndsFed (allowed : Spelling) (depth : ℕ) (read : List ℕ) (answer : CllAnswer) (report : CllReport) : Type 0
+  where
+    pub says : SaysOfEnd allowed depth read answer report.place
+    pub answers : (checker : Checker) → HasRead allowed depth read checker → IsEndAnswer answer report.place checker
+    pub reports : Reports report 0 0 report.place

@@ -1,5 +1,6 @@
 -- The result of `cll_skip`.
-use Rattle.std.specs.Prelude.{◌≡◌, ℕ, ◌+◌, false, List, length, Result, Ok, Err}
+use Rattle.std.specs.Prelude.{◌≡◌, ℕ, ◌+◌, List, length, Result, Ok, Err}
+use Rattle.ciborium_ll_grammar.specs.declared.spelling.Spelling.TheVariants.{Any}
 use Rattle.ciborium_ll.specs.Types.Error.TheVariants as e
 use Rattle.ciborium_ll.specs.Faults.{Short, Syntax}
 use Rattle.cbor_skip.specs.declared.SkipError.{SkipError}
@@ -14,17 +15,17 @@ use Rattle.capi.specs.Answers.{Reports}
 -- Nothing is written. If the bytes end too early, the place is a number of bytes (`ItemLacks`). To a depth of 1, 3
 -- bytes of `82 01 02 03` are consumed, and `81 ff` is `BreakDue` at 1.
 abbrev pub Skips : ℕ → List ℕ → CllAnswer → CllReport → Type 0
-Skips depth bytes a.Ok report = (front : BeginsWithItem false depth bytes) × Reports report (length front.item) 0 0
+Skips depth bytes a.Ok report = (front : BeginsWithItem Any depth bytes) × Reports report (length front.item) 0 0
 Skips depth bytes a.Short report =
-    (fault : HasItemFault false depth bytes) × (fault.answer ≡ Short)
+    (fault : HasItemFault Any depth bytes) × (fault.answer ≡ Short)
     × Reports report (length fault.before + fault.consumed) 0 report.place
 Skips depth bytes a.Syntax report =
-    (fault : HasItemFault false depth bytes) × (fault.answer ≡ Syntax report.place)
+    (fault : HasItemFault Any depth bytes) × (fault.answer ≡ Syntax report.place)
     × Reports report (length fault.before + fault.consumed) 0 report.place
 Skips depth bytes a.BreakDue report =
-    (fault : HasEarlyBreak false depth bytes) × Reports report (length fault.before + 1) 0 (length fault.before)
+    (fault : HasEarlyBreak Any depth bytes) × Reports report (length fault.before + 1) 0 (length fault.before)
 Skips depth bytes a.TooDeep report =
-    (fault : HasDeepNest false depth bytes)
+    (fault : HasDeepNest Any depth bytes)
     × Reports report (length fault.before + length fault.title) 0 (length fault.before)
 Skips depth bytes answer report = ⊥
 

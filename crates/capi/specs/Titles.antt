@@ -1,5 +1,6 @@
 -- The result of `cll_headers`.
-use Rattle.std.specs.Prelude.{◌≡◌, ℕ, ◌+◌, ◌<◌, ◌≤◌, ◌⊎◌, false, List, [], ◌∷◌, ◌++◌, length, take, drop, Some}
+use Rattle.std.specs.Prelude.{◌≡◌, ℕ, ◌+◌, ◌<◌, ◌≤◌, ◌⊎◌, List, [], ◌∷◌, ◌++◌, length, take, drop, Some}
+use Rattle.ciborium_ll_grammar.specs.declared.spelling.Spelling.TheVariants.{Any}
 use Rattle.ciborium_ll.specs.Types.Header.{Header}
 use Rattle.ciborium_ll.specs.Types.Header.TheVariants as h
 use Rattle.ciborium_ll.specs.Faults.{Short, Syntax}
@@ -88,10 +89,10 @@ Gives old taken entries new report =
 -- bytes are due.
 abbrev pub StopsAt : List ℕ → ℕ → ℕ → CllAnswer → CllReport → Type 0
 StopsAt bytes taken count a.Short report =
-    (fault : HasItemFault false 0 (drop taken bytes)) × (fault.answer ≡ Short)
-    × ItemLacks false 1 (drop taken bytes) report.place × Reports report taken count report.place
+    (fault : HasItemFault Any 0 (drop taken bytes)) × (fault.answer ≡ Short)
+    × ItemLacks Any 1 (drop taken bytes) report.place × Reports report taken count report.place
 StopsAt bytes taken count a.Syntax report =
-    (fault : HasItemFault false 0 (drop taken bytes)) × (place : ℕ) × (fault.answer ≡ Syntax place)
+    (fault : HasItemFault Any 0 (drop taken bytes)) × (place : ℕ) × (fault.answer ≡ Syntax place)
     × Reports report taken count (taken + place)
 StopsAt bytes taken count answer report = ⊥
 

@@ -1,6 +1,7 @@
 -- The results of the calls that look into an item in memory.
 use Rattle.std.specs.Prelude.{◌≡◌, ◌≢◌, ◌≤◌, ◌+◌, ℕ, ℤ, pos, negsuc, Bool, true, false, List, [], ◌++◌}
 use Rattle.std.specs.Prelude.{Option, Some, None}
+use Rattle.ciborium_ll_grammar.specs.declared.spelling.Spelling.TheVariants.{Any}
 use Rattle.ciborium_ll_grammar.specs.declared.hdr.Header.{Header}
 use Rattle.ciborium_ll_grammar.specs.declared.hdr.Header.TheVariants as h
 use Rattle.ciborium_ll_grammar.specs.declared.limits.TheConstants.{MOST_LEVELS}
@@ -25,14 +26,14 @@ use Rattle.capi.specs.Pulling.{BeginsWithTitle}
 -- has `82 01 02`.
 pub record Views (depth : ℕ) (bytes : List ℕ) (item : CllItem) : Type 0 where
   pub rest : List ℕ
-  pub is_item : IsItem false depth item.bytes.now
+  pub is_item : IsItem Any depth item.bytes.now
   pub whole : bytes ≡ item.bytes.now ++ rest
   pub levels : item.depth ≡ depth
 
 -- The view has one whole item, as each view has that a call filled in. `82 01 02` to a depth of 1 is one, and `82 01`
 -- is none.
 pub record IsView (item : CllItem) : Type 0 where
-  pub is_item : IsItem false item.depth item.bytes.now
+  pub is_item : IsItem Any item.depth item.bytes.now
   pub shallow : item.depth ≤ MOST_LEVELS
 
 -- The result of `cll_item_header`, by its answer: the header of the title that begins the bytes. Of `82 01 02` it is an
@@ -93,7 +94,7 @@ ListsItems item answer old new = ⊥
 -- The call took the first item, and left the others. It takes `82 02 03` of `82 02 03 04`, and leaves `04`.
 pub record TakesFirst (old : CllItems) (item : CllItem) (new : CllItems) : Type 0 where
   pub whole : old.bytes.now ≡ item.bytes.now ++ new.bytes.now
-  pub is_item : IsItem false old.depth item.bytes.now
+  pub is_item : IsItem Any old.depth item.bytes.now
   pub levels : item.depth ≡ old.depth
   pub same_levels : new.depth ≡ old.depth
   pub shallow : old.depth ≤ MOST_LEVELS
@@ -104,7 +105,7 @@ abbrev pub StepsOn : CllAnswer → CllItems → CllItem → CllItems → CllItem
 StepsOn a.Ok old before new item = TakesFirst old item new
 StepsOn a.Absent old before new item = (old.bytes.now ≡ []) × (new ≡ old) × (item ≡ before)
 StepsOn a.Argument old before new item =
-    (old.bytes.now ≢ []) × (old.depth ≤ MOST_LEVELS → BeginsWithItem false old.depth old.bytes.now → ⊥)
+    (old.bytes.now ≢ []) × (old.depth ≤ MOST_LEVELS → BeginsWithItem Any old.depth old.bytes.now → ⊥)
     × (new ≡ old) × (item ≡ before)
 StepsOn answer old before new item = ⊥
 

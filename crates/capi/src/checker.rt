@@ -7,7 +7,7 @@ ghost use Rattle.capi.specs.Answers.{Reports};
 ghost use Rattle.capi.specs.Feeding.{EndsFed, Feeds, IsChecker, IsKept, IsNoChecker, IsSetUp, TakesWithin};
 ghost use Rattle.capi.specs.Feeding.{end_answer, end_number, fault_answer, fault_place};
 ghost use Rattle.capi.specs.Feeding.{progress_answer, progress_number};
-ghost use Rattle.ciborium_ll_grammar.specs.Spellings.{is_shortest};
+ghost use Rattle.ciborium_ll_grammar.specs.declared.spelling.Spelling.{Spelling};
 ghost use Rattle.ciborium_ll_grammar.specs.declared.limits.TheConstants.{MOST_LEVELS};
 
 use crate::answer::{CllAnswer, CllReport};
@@ -33,8 +33,8 @@ impl CllChecker {
     /// Makes `checker` the one that this memory holds, and says whether it holds one.
     #[inline(always)]
     fn load_into(&self, checker: &mut Checker) -> bool
-        ensures kept { (strict : Bool) (depth : ℕ) (read : List ℕ) → IsKept strict depth read self.now
-            → (result ≡ true) × HasRead strict depth read checker.new }
+        ensures kept { (allowed : Spelling) (depth : ℕ) (read : List ℕ) → IsKept allowed depth read self.now
+            → (result ≡ true) × HasRead allowed depth read checker.new }
         ensures some { result ≡ true → IsChecker self.now }
     {
         self.mark == MARK && checker.load(&self.state)
@@ -81,7 +81,7 @@ fn told_end(end: End) -> (CllAnswer, usize)
 /// Sets a checker of an item in this spelling up.
 pub(crate) fn init(checker: &mut CllChecker, depth: usize, spelling: Spelling)
     requires { depth ≤ MOST_LEVELS }
-    ensures { IsSetUp (is_shortest spelling) depth checker.new }
+    ensures { IsSetUp spelling depth checker.new }
 {
     Checker::with_spelling(depth, spelling).save(&mut checker.state);
     checker.mark = MARK;
@@ -89,8 +89,8 @@ pub(crate) fn init(checker: &mut CllChecker, depth: usize, spelling: Spelling)
 
 /// Gives a checker the next bytes of its item.
 pub(crate) fn feed(checker: &mut CllChecker, bytes: &[u8], report: &mut CllReport) -> CllAnswer
-    ensures fed { (strict : Bool) (depth : ℕ) (read : List ℕ) → IsKept strict depth read checker.old
-        → Feeds strict depth read bytes.now result report.new checker.new }
+    ensures fed { (allowed : Spelling) (depth : ℕ) (read : List ℕ) → IsKept allowed depth read checker.old
+        → Feeds allowed depth read bytes.now result report.new checker.new }
     ensures within { TakesWithin bytes.now report.new }
     ensures argument { IsNoChecker checker.old
         → (result ≡ a.Argument) × (checker.new ≡ checker.old) × Reports report.new 0 0 0 }
@@ -110,8 +110,8 @@ pub(crate) fn feed(checker: &mut CllChecker, bytes: &[u8], report: &mut CllRepor
 
 /// Says what it means that no more bytes come to a checker.
 pub(crate) fn end(checker: &CllChecker, report: &mut CllReport) -> CllAnswer
-    ensures ended { (strict : Bool) (depth : ℕ) (read : List ℕ) → IsKept strict depth read checker.now
-        → EndsFed strict depth read result report.new }
+    ensures ended { (allowed : Spelling) (depth : ℕ) (read : List ℕ) → IsKept allowed depth read checker.now
+        → EndsFed allowed depth read result report.new }
     ensures argument { IsNoChecker checker.now → (result ≡ a.Argument) × Reports report.new 0 0 0 }
 {
     let mut restored = Checker::new(0);

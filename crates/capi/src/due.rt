@@ -2,7 +2,7 @@
 
 ghost use Rattle.std.specs.Prelude.{◌≡◌, ◌≤◌, IfSome, false, length};
 ghost use Rattle.cbor_skip.specs.ItemFaults.{BeginsWithItem};
-ghost use Rattle.ciborium_ll_grammar.specs.Spellings.{is_shortest};
+ghost use Rattle.ciborium_ll_grammar.specs.declared.spelling.Spelling.TheVariants.{Any};
 ghost use Rattle.capi.specs.Lacking.{ItemLacks};
 ghost use Rattle.ciborium_ll_grammar.specs.declared.limits.TheConstants.{MOST_LEVELS};
 
@@ -14,8 +14,8 @@ use ciborium_ll::Spelling;
 #[inline(never)]
 pub(crate) fn due_behind(bytes: &[u8], depth: usize, spelling: Spelling) -> usize
     requires shallow { depth ≤ MOST_LEVELS }
-    requires cut { BeginsWithItem (is_shortest spelling) depth bytes.now → ⊥ }
-    ensures { ItemLacks (is_shortest spelling) depth bytes.now result }
+    requires cut { BeginsWithItem spelling depth bytes.now → ⊥ }
+    ensures { ItemLacks spelling depth bytes.now result }
 {
     let mut checker = Checker::with_spelling(depth, spelling);
     match checker.feed(bytes).progress {
@@ -29,7 +29,7 @@ pub(crate) fn due_behind(bytes: &[u8], depth: usize, spelling: Spelling) -> usiz
 #[inline(never)]
 pub(crate) fn item_len(bytes: &[u8], depth: usize) -> Option<usize>
     requires shallow { depth ≤ MOST_LEVELS }
-    ensures { IfSome result (λ len. (front : BeginsWithItem false depth bytes.now) × (len ≡ length front.item)) }
+    ensures { IfSome result (λ len. (front : BeginsWithItem Any depth bytes.now) × (len ≡ length front.item)) }
 {
     let mut checker = Checker::new(depth);
     match checker.feed(bytes).progress {

@@ -1,6 +1,7 @@
 //! One item in memory, as C knows it: its bytes, and how many levels it may go down.
 
 ghost use Rattle.std.specs.Prelude.{◌≡◌, ◌≢◌, ◌↔◌, ◌≤◌, List, ℕ, false, MatchOption, Some, length};
+ghost use Rattle.ciborium_ll_grammar.specs.declared.spelling.Spelling.TheVariants.{Any};
 ghost use Rattle.ciborium_ll_grammar.specs.Items.{IsItem};
 ghost use Rattle.ciborium_ll_grammar.specs.declared.limits.TheConstants.{MOST_LEVELS};
 ghost use Rattle.cbor_skip.specs.ItemFaults.{BeginsWithItem};
@@ -46,8 +47,8 @@ pub(crate) fn parse<'a>(
 ) -> CllAnswer
     requires shallow { depth ≤ MOST_LEVELS }
     ensures skipped { Skips depth bytes.now result report.new }
-    ensures exactly { result ≡ a.Ok ↔ BeginsWithItem false depth bytes.now }
-    ensures due { result ≡ a.Short → ItemLacks false depth bytes.now report.new.place }
+    ensures exactly { result ≡ a.Ok ↔ BeginsWithItem Any depth bytes.now }
+    ensures due { result ≡ a.Short → ItemLacks Any depth bytes.now report.new.place }
     ensures parsed { result ≡ a.Ok
         → Views depth bytes.now item.new × (report.new.consumed ≡ length item.new.bytes.now) }
     ensures kept { result ≢ a.Ok → item.new ≡ item.old }

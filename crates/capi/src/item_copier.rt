@@ -8,7 +8,7 @@ ghost use Rattle.capi.specs.ItemPieces.{EndsItem, FeedsItem, IsItemCopier, IsIte
 ghost use Rattle.capi.specs.ItemPieces.{IsNoItemCopier, item_answer, item_end_answer, item_end_number};
 ghost use Rattle.capi.specs.ItemPieces.{item_number};
 ghost use Rattle.capi.specs.Pieces.{StaysWithin};
-ghost use Rattle.ciborium_ll_grammar.specs.Spellings.{is_shortest};
+ghost use Rattle.ciborium_ll_grammar.specs.declared.spelling.Spelling.{Spelling};
 ghost use Rattle.ciborium_ll_grammar.specs.declared.limits.TheConstants.{MOST_LEVELS};
 
 use crate::answer::{CllAnswer, CllReport};
@@ -36,9 +36,9 @@ impl CllItemCopier {
     #[inline(always)]
     fn load_into(&self, copier: &mut ItemCopier) -> bool
         ensures some { result ≡ true → IsItemCopier self.now }
-        ensures kept { (strict : Bool) (depth : ℕ) (read written : List ℕ)
-            → IsItemCopyKept strict depth read written self.now
-            → (result ≡ true) × HasCopied strict depth read written copier.new }
+        ensures kept { (allowed : Spelling) (depth : ℕ) (read written : List ℕ)
+            → IsItemCopyKept allowed depth read written self.now
+            → (result ≡ true) × HasCopied allowed depth read written copier.new }
     {
         self.mark == MARK && copier.load(&self.state)
     }
@@ -74,7 +74,7 @@ fn told_end(end: End) -> (CllAnswer, usize)
 /// Sets a copier of an item in this spelling up.
 pub(crate) fn init(copier: &mut CllItemCopier, depth: usize, spelling: Spelling)
     requires { depth ≤ MOST_LEVELS }
-    ensures { IsItemSetUp (is_shortest spelling) depth copier.new }
+    ensures { IsItemSetUp spelling depth copier.new }
 {
     ItemCopier::with_spelling(depth, spelling).save(&mut copier.state);
     copier.mark = MARK;
@@ -87,9 +87,9 @@ pub(crate) fn feed(
     out: &mut [u8],
     report: &mut CllReport,
 ) -> CllAnswer
-    ensures fed { (strict : Bool) (depth : ℕ) (read written : List ℕ)
-        → IsItemCopyKept strict depth read written copier.old
-        → FeedsItem strict depth read written bytes.now out.old result out.new report.new copier.new }
+    ensures fed { (allowed : Spelling) (depth : ℕ) (read written : List ℕ)
+        → IsItemCopyKept allowed depth read written copier.old
+        → FeedsItem allowed depth read written bytes.now out.old result out.new report.new copier.new }
     ensures within { StaysWithin bytes.now out.old out.new report.new }
     ensures argument { IsNoItemCopier copier.old
         → (result ≡ a.Argument) × (copier.new ≡ copier.old) × (out.new ≡ out.old) × Reports report.new 0 0 0 }
@@ -108,9 +108,9 @@ pub(crate) fn feed(
 
 /// Says what it means that no more bytes come to a copier of an item.
 pub(crate) fn end(copier: &CllItemCopier, report: &mut CllReport) -> CllAnswer
-    ensures ended { (strict : Bool) (depth : ℕ) (read written : List ℕ)
-        → IsItemCopyKept strict depth read written copier.now
-        → EndsItem strict depth read written result report.new }
+    ensures ended { (allowed : Spelling) (depth : ℕ) (read written : List ℕ)
+        → IsItemCopyKept allowed depth read written copier.now
+        → EndsItem allowed depth read written result report.new }
     ensures argument { IsNoItemCopier copier.now → (result ≡ a.Argument) × Reports report.new 0 0 0 }
 {
     let mut restored = ItemCopier::new(0);

@@ -13,6 +13,8 @@ ghost use Rattle.ciborium_ll.specs.Faults.{BeginsWithElements};
 ghost use Rattle.ciborium_ll.specs.Recoding.{CopiesElements};
 ghost use Rattle.ciborium_ll.specs.Sides.{sides};
 ghost use Rattle.ciborium_ll.specs.Slices.{slice_target};
+ghost use Rattle.ciborium_ll_grammar.specs.declared.spelling.Spelling.{Spelling};
+ghost use Rattle.ciborium_ll_grammar.specs.declared.spelling.Spelling.TheVariants.{Any, Shortest};
 ghost use Rattle.ciborium_ll_grammar.specs.Parts.{IsParts, title_bytes};
 ghost use Rattle.ciborium_ll_text.specs.Text.{IsCharacters};
 ghost use Rattle.cbor_skip.specs.ItemFaults.{BeginsWithItem};
@@ -262,7 +264,7 @@ fn copy(bytes: &[u8], count: usize, out: &mut [u8], report: &mut CllReport) -> C
     ensures copied { HasRoom count bytes.now (length out.old)
         → CopiesInto count bytes.now out.old result out.new report.new }
     ensures exactly { HasRoom count bytes.now (length out.old)
-        → (result ≡ a.Ok ↔ BeginsWithElements false count bytes.now) }
+        → (result ≡ a.Ok ↔ BeginsWithElements Any count bytes.now) }
     ensures anyhow { CopiesAnyhow count bytes.now out.old result out.new report.new }
     ensures counted { CountsElements count bytes.now (length out.old) result out.new report.new }
 {
@@ -293,10 +295,10 @@ fn copy_or_due(bytes: &[u8], count: usize, out: &mut [u8], report: &mut CllRepor
     ensures copied { HasRoom count bytes.now (length out.old)
         → CopiesInto count bytes.now out.old result out.new report.new }
     ensures exactly { HasRoom count bytes.now (length out.old)
-        → (result ≡ a.Ok ↔ BeginsWithElements false count bytes.now) }
+        → (result ≡ a.Ok ↔ BeginsWithElements Any count bytes.now) }
     ensures anyhow { CopiesAnyhow count bytes.now out.old result out.new report.new }
     ensures counted { CountsElements count bytes.now (length out.old) result out.new report.new }
-    ensures due { result ≡ a.Short → ElementsLack false count bytes.now report.new.whole report.new.place }
+    ensures due { result ≡ a.Short → ElementsLack Any count bytes.now report.new.whole report.new.place }
 {
     match copy(bytes, count, out, report) {
         CllAnswer::Short => {
@@ -310,10 +312,10 @@ fn copy_or_due(bytes: &[u8], count: usize, out: &mut [u8], report: &mut CllRepor
 /// Copies `count` elements into `out`, each in its shortest spelling (RFC 7049, 3.9).
 pub fn cll_recode(bytes: &[u8], count: u64, out: &mut [u8], report: &mut CllReport) -> u32
     ensures exactly { HasRoom count bytes.now (length out.old)
-        → (result ≡ code a.Ok ↔ BeginsWithElements false count bytes.now) }
+        → (result ≡ code a.Ok ↔ BeginsWithElements Any count bytes.now) }
     ensures counted { (answer : CllAnswer) × (result ≡ code answer)
         × CountsElements count bytes.now (length out.old) answer out.new report.new }
-    ensures due { result ≡ code a.Short → ElementsLack false count bytes.now report.new.whole report.new.place }
+    ensures due { result ≡ code a.Short → ElementsLack Any count bytes.now report.new.whole report.new.place }
     ensures anyhow { (answer : CllAnswer) × (result ≡ code answer)
         × CopiesAnyhow count bytes.now out.old answer out.new report.new }
     ensures copied { HasRoom count bytes.now (length out.old)
@@ -325,7 +327,7 @@ pub fn cll_recode(bytes: &[u8], count: u64, out: &mut [u8], report: &mut CllRepo
 /// Reads `count` elements, each in its shortest spelling, and reports how far the read came.
 fn check(bytes: &[u8], count: usize, report: &mut CllReport) -> CllAnswer
     ensures checked { Checks count bytes.now result report.new }
-    ensures exactly { result ≡ a.Ok ↔ BeginsWithElements true count bytes.now }
+    ensures exactly { result ≡ a.Ok ↔ BeginsWithElements Shortest count bytes.now }
     ensures counted { CountsStrictly count bytes.now result report.new }
 {
     let mut buffer = [0; BUFFER_SIZE];
@@ -354,9 +356,9 @@ fn check(bytes: &[u8], count: usize, report: &mut CllReport) -> CllAnswer
 /// Reads as `check` does. If the bytes end too early, the report also says how many more are due.
 fn check_or_due(bytes: &[u8], count: usize, report: &mut CllReport) -> CllAnswer
     ensures checked { Checks count bytes.now result report.new }
-    ensures exactly { result ≡ a.Ok ↔ BeginsWithElements true count bytes.now }
+    ensures exactly { result ≡ a.Ok ↔ BeginsWithElements Shortest count bytes.now }
     ensures counted { CountsStrictly count bytes.now result report.new }
-    ensures due { result ≡ a.Short → ElementsLack true count bytes.now report.new.whole report.new.place }
+    ensures due { result ≡ a.Short → ElementsLack Shortest count bytes.now report.new.whole report.new.place }
 {
     match check(bytes, count, report) {
         CllAnswer::Short => {
@@ -376,10 +378,10 @@ fn check_or_due(bytes: &[u8], count: usize, report: &mut CllReport) -> CllAnswer
 
 /// Checks that the bytes begin with `count` elements in their shortest spelling (RFC 7049, 3.9).
 pub fn cll_strict(bytes: &[u8], count: u64, report: &mut CllReport) -> u32
-    ensures exactly { result ≡ code a.Ok ↔ BeginsWithElements true count bytes.now }
+    ensures exactly { result ≡ code a.Ok ↔ BeginsWithElements Shortest count bytes.now }
     ensures counted { (answer : CllAnswer) × (result ≡ code answer)
         × CountsStrictly count bytes.now answer report.new }
-    ensures due { result ≡ code a.Short → ElementsLack true count bytes.now report.new.whole report.new.place }
+    ensures due { result ≡ code a.Short → ElementsLack Shortest count bytes.now report.new.whole report.new.place }
     ensures checked { (answer : CllAnswer) × (result ≡ code answer) × Checks count bytes.now answer report.new }
 {
     check_or_due(bytes, count as usize, report).code()
@@ -404,7 +406,7 @@ fn stop_of_skip(skipped: Result<(), SkipError<EndOfFile>>) -> (CllAnswer, usize)
 fn skip(bytes: &[u8], depth: usize, report: &mut CllReport) -> CllAnswer
     requires shallow { depth ≤ MOST_LEVELS }
     ensures skipped { Skips depth bytes.now result report.new }
-    ensures exactly { result ≡ a.Ok ↔ BeginsWithItem false depth bytes.now }
+    ensures exactly { result ≡ a.Ok ↔ BeginsWithItem Any depth bytes.now }
 {
     let mut buffer = [0; BUFFER_SIZE];
     let mut decoder = Decoder::from(SliceReader::new(bytes));
@@ -418,8 +420,8 @@ fn skip(bytes: &[u8], depth: usize, report: &mut CllReport) -> CllAnswer
 fn skip_or_due(bytes: &[u8], depth: usize, report: &mut CllReport) -> CllAnswer
     requires shallow { depth ≤ MOST_LEVELS }
     ensures skipped { Skips depth bytes.now result report.new }
-    ensures exactly { result ≡ a.Ok ↔ BeginsWithItem false depth bytes.now }
-    ensures due { result ≡ a.Short → ItemLacks false depth bytes.now report.new.place }
+    ensures exactly { result ≡ a.Ok ↔ BeginsWithItem Any depth bytes.now }
+    ensures due { result ≡ a.Short → ItemLacks Any depth bytes.now report.new.place }
 {
     // A checker finds a whole item faster, since it takes items in runs. Only the skip tells a fault and its place.
     if let Some(len) = item_len(bytes, depth) {
@@ -437,8 +439,8 @@ fn skip_or_due(bytes: &[u8], depth: usize, report: &mut CllReport) -> CllAnswer
 
 /// Skips the item with which the bytes begin, nested at most `depth` levels deep (RFC 7049, 2.1 to 2.4).
 pub fn cll_skip(bytes: &[u8], depth: u32, report: &mut CllReport) -> u32
-    ensures exactly { depth ≤ MOST_LEVELS → (result ≡ code a.Ok ↔ BeginsWithItem false depth bytes.now) }
-    ensures due { depth ≤ MOST_LEVELS → result ≡ code a.Short → ItemLacks false depth bytes.now report.new.place }
+    ensures exactly { depth ≤ MOST_LEVELS → (result ≡ code a.Ok ↔ BeginsWithItem Any depth bytes.now) }
+    ensures due { depth ≤ MOST_LEVELS → result ≡ code a.Short → ItemLacks Any depth bytes.now report.new.place }
     ensures argument { MOST_LEVELS < depth → (result ≡ code a.Argument) × Reports report.new 0 0 0 }
     ensures skipped { depth ≤ MOST_LEVELS
         → (answer : CllAnswer) × (result ≡ code answer) × Skips depth bytes.now answer report.new }
@@ -499,11 +501,11 @@ pub fn cll_item_parse<'a>(
     item: &mut CllItem<'a>,
     report: &mut CllReport,
 ) -> u32
-    ensures exactly { depth ≤ MOST_LEVELS → (result ≡ code a.Ok ↔ BeginsWithItem false depth bytes.now) }
+    ensures exactly { depth ≤ MOST_LEVELS → (result ≡ code a.Ok ↔ BeginsWithItem Any depth bytes.now) }
     ensures parsed { result ≡ code a.Ok
         → Views depth bytes.now item.new × (report.new.consumed ≡ length item.new.bytes.now) }
     ensures kept { result ≢ code a.Ok → item.new ≡ item.old }
-    ensures due { depth ≤ MOST_LEVELS → result ≡ code a.Short → ItemLacks false depth bytes.now report.new.place }
+    ensures due { depth ≤ MOST_LEVELS → result ≡ code a.Short → ItemLacks Any depth bytes.now report.new.place }
     ensures argument { MOST_LEVELS < depth → (result ≡ code a.Argument) × Reports report.new 0 0 0 }
     ensures skipped { depth ≤ MOST_LEVELS
         → (answer : CllAnswer) × (result ≡ code answer) × Skips depth bytes.now answer report.new }
@@ -615,7 +617,7 @@ pub fn cll_utf8(bytes: &[u8], report: &mut CllReport) -> u32
 
 /// Sets a checker up for an item nested at most `depth` levels deep (RFC 7049, 2.1 to 2.4).
 pub fn cll_checker_init(checker: &mut CllChecker, depth: u32) -> u32
-    ensures set_up { depth ≤ MOST_LEVELS → (result ≡ code a.Ok) × IsSetUp false depth checker.new }
+    ensures set_up { depth ≤ MOST_LEVELS → (result ≡ code a.Ok) × IsSetUp Any depth checker.new }
     ensures argument { MOST_LEVELS < depth → (result ≡ code a.Argument) × (checker.new ≡ checker.old) }
 {
     if depth as usize > MOST_LEVELS {
@@ -627,7 +629,7 @@ pub fn cll_checker_init(checker: &mut CllChecker, depth: u32) -> u32
 
 /// Sets a checker up for an item in its shortest spelling (RFC 7049, 3.9).
 pub fn cll_checker_init_strict(checker: &mut CllChecker, depth: u32) -> u32
-    ensures set_up { depth ≤ MOST_LEVELS → (result ≡ code a.Ok) × IsSetUp true depth checker.new }
+    ensures set_up { depth ≤ MOST_LEVELS → (result ≡ code a.Ok) × IsSetUp Shortest depth checker.new }
     ensures argument { MOST_LEVELS < depth → (result ≡ code a.Argument) × (checker.new ≡ checker.old) }
 {
     if depth as usize > MOST_LEVELS {
@@ -639,9 +641,9 @@ pub fn cll_checker_init_strict(checker: &mut CllChecker, depth: u32) -> u32
 
 /// Gives a checker the next bytes of its item.
 pub fn cll_checker_feed(checker: &mut CllChecker, bytes: &[u8], report: &mut CllReport) -> u32
-    ensures fed { (strict : Bool) (depth : ℕ) (read : List ℕ) → IsKept strict depth read checker.old
+    ensures fed { (allowed : Spelling) (depth : ℕ) (read : List ℕ) → IsKept allowed depth read checker.old
         → (answer : CllAnswer) × (result ≡ code answer)
-        × Feeds strict depth read bytes.now answer report.new checker.new }
+        × Feeds allowed depth read bytes.now answer report.new checker.new }
     ensures answers { IsCode result }
     ensures within { TakesWithin bytes.now report.new }
     ensures argument { IsNoChecker checker.old
@@ -652,8 +654,8 @@ pub fn cll_checker_feed(checker: &mut CllChecker, bytes: &[u8], report: &mut Cll
 
 /// Says what it means that no more bytes come to a checker, and leaves it as it is.
 pub fn cll_checker_end(checker: &CllChecker, report: &mut CllReport) -> u32
-    ensures ended { (strict : Bool) (depth : ℕ) (read : List ℕ) → IsKept strict depth read checker.now
-        → (answer : CllAnswer) × (result ≡ code answer) × EndsFed strict depth read answer report.new }
+    ensures ended { (allowed : Spelling) (depth : ℕ) (read : List ℕ) → IsKept allowed depth read checker.now
+        → (answer : CllAnswer) × (result ≡ code answer) × EndsFed allowed depth read answer report.new }
     ensures answers { IsCode result }
     ensures argument { IsNoChecker checker.now → (result ≡ code a.Argument) × Reports report.new 0 0 0 }
 {
@@ -699,7 +701,7 @@ pub fn cll_copier_end(copier: &CllCopier, report: &mut CllReport) -> u32
 
 /// Sets a copier of an item up, nested at most `depth` levels deep (RFC 7049, 2.1 to 2.4).
 pub fn cll_item_copier_init(copier: &mut CllItemCopier, depth: u32) -> u32
-    ensures set_up { depth ≤ MOST_LEVELS → (result ≡ code a.Ok) × IsItemSetUp false depth copier.new }
+    ensures set_up { depth ≤ MOST_LEVELS → (result ≡ code a.Ok) × IsItemSetUp Any depth copier.new }
     ensures argument { MOST_LEVELS < depth → (result ≡ code a.Argument) × (copier.new ≡ copier.old) }
 {
     if depth as usize > MOST_LEVELS {
@@ -711,7 +713,7 @@ pub fn cll_item_copier_init(copier: &mut CllItemCopier, depth: u32) -> u32
 
 /// Sets a copier up for an item that is in its shortest spelling (RFC 7049, 3.9).
 pub fn cll_item_copier_init_strict(copier: &mut CllItemCopier, depth: u32) -> u32
-    ensures set_up { depth ≤ MOST_LEVELS → (result ≡ code a.Ok) × IsItemSetUp true depth copier.new }
+    ensures set_up { depth ≤ MOST_LEVELS → (result ≡ code a.Ok) × IsItemSetUp Shortest depth copier.new }
     ensures argument { MOST_LEVELS < depth → (result ≡ code a.Argument) × (copier.new ≡ copier.old) }
 {
     if depth as usize > MOST_LEVELS {
@@ -729,9 +731,9 @@ pub fn cll_item_copier_feed(
     out: &mut [u8],
     report: &mut CllReport,
 ) -> u32
-    ensures fed { (strict : Bool) (depth : ℕ) (read written : List ℕ)
-        → IsItemCopyKept strict depth read written copier.old → (answer : CllAnswer) × (result ≡ code answer)
-        × FeedsItem strict depth read written bytes.now out.old answer out.new report.new copier.new }
+    ensures fed { (allowed : Spelling) (depth : ℕ) (read written : List ℕ)
+        → IsItemCopyKept allowed depth read written copier.old → (answer : CllAnswer) × (result ≡ code answer)
+        × FeedsItem allowed depth read written bytes.now out.old answer out.new report.new copier.new }
     ensures answers { IsCode result }
     ensures within { StaysWithin bytes.now out.old out.new report.new }
     ensures argument { IsNoItemCopier copier.old → (result ≡ code a.Argument) × (copier.new ≡ copier.old)
@@ -742,9 +744,9 @@ pub fn cll_item_copier_feed(
 
 /// Says what it means that no more bytes come to a copier of an item, and leaves it as it is.
 pub fn cll_item_copier_end(copier: &CllItemCopier, report: &mut CllReport) -> u32
-    ensures ended { (strict : Bool) (depth : ℕ) (read written : List ℕ)
-        → IsItemCopyKept strict depth read written copier.now → (answer : CllAnswer) × (result ≡ code answer)
-        × EndsItem strict depth read written answer report.new }
+    ensures ended { (allowed : Spelling) (depth : ℕ) (read written : List ℕ)
+        → IsItemCopyKept allowed depth read written copier.now → (answer : CllAnswer) × (result ≡ code answer)
+        × EndsItem allowed depth read written answer report.new }
     ensures answers { IsCode result }
     ensures argument { IsNoItemCopier copier.now → (result ≡ code a.Argument) × Reports report.new 0 0 0 }
 {

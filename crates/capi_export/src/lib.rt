@@ -19,6 +19,8 @@
 #![tactic(auto)]
 
 ghost use Rattle.std.specs.Prelude.{◌≡◌, ◌≢◌, ◌↔◌, ◌≤◌, ◌<◌, ◌⊎◌, List, ◌++◌, drop, length, Bool, true, false, ℕ};
+ghost use Rattle.ciborium_ll.specs.Types.Spelling.{Spelling};
+ghost use Rattle.ciborium_ll.specs.Types.Spelling.TheVariants.{Any, Shortest};
 ghost use Rattle.cbor_deterministic.specs.declared.Order.{Order as AnyOrder};
 ghost use Rattle.cbor_deterministic.specs.declared.Why.{Why as AnyWhy};
 ghost use Rattle.cbor_deterministic.specs.Deterministic.{HasDeterministic};
@@ -161,10 +163,10 @@ pub extern "C" fn cll_recode(
     report: &mut CllReport,
 ) -> u32
     ensures exactly { HasRoom count bytes.now (length out.old)
-        → (result ≡ code a.Ok ↔ BeginsWithElements false count bytes.now) }
+        → (result ≡ code a.Ok ↔ BeginsWithElements Any count bytes.now) }
     ensures counted { (answer : CllAnswer) × (result ≡ code answer)
         × CountsElements count bytes.now (length out.old) answer out.new report.new }
-    ensures due { result ≡ code a.Short → ElementsLack false count bytes.now report.new.whole report.new.place }
+    ensures due { result ≡ code a.Short → ElementsLack Any count bytes.now report.new.whole report.new.place }
     ensures anyhow { (answer : CllAnswer) × (result ≡ code answer)
         × CopiesAnyhow count bytes.now out.old answer out.new report.new }
     ensures copied { HasRoom count bytes.now (length out.old)
@@ -184,10 +186,10 @@ pub extern "C" fn cll_recode(
 /// - `Syntax`: as of [`cll_recode`], or a title that may not stand in a shortest spelling.
 #[unsafe(no_mangle)]
 pub extern "C" fn cll_strict(bytes: &[u8], count: u64, report: &mut CllReport) -> u32
-    ensures exactly { result ≡ code a.Ok ↔ BeginsWithElements true count bytes.now }
+    ensures exactly { result ≡ code a.Ok ↔ BeginsWithElements Shortest count bytes.now }
     ensures counted { (answer : CllAnswer) × (result ≡ code answer)
         × CountsStrictly count bytes.now answer report.new }
-    ensures due { result ≡ code a.Short → ElementsLack true count bytes.now report.new.whole report.new.place }
+    ensures due { result ≡ code a.Short → ElementsLack Shortest count bytes.now report.new.whole report.new.place }
     ensures checked { (answer : CllAnswer) × (result ≡ code answer) × Checks count bytes.now answer report.new }
 {
     capi::cll_strict(bytes, count, report)
@@ -204,8 +206,8 @@ pub extern "C" fn cll_strict(bytes: &[u8], count: u64, report: &mut CllReport) -
 /// - `Argument`: the depth is above 256.
 #[unsafe(no_mangle)]
 pub extern "C" fn cll_skip(bytes: &[u8], depth: u32, report: &mut CllReport) -> u32
-    ensures exactly { depth ≤ MOST_LEVELS → (result ≡ code a.Ok ↔ BeginsWithItem false depth bytes.now) }
-    ensures due { depth ≤ MOST_LEVELS → result ≡ code a.Short → ItemLacks false depth bytes.now report.new.place }
+    ensures exactly { depth ≤ MOST_LEVELS → (result ≡ code a.Ok ↔ BeginsWithItem Any depth bytes.now) }
+    ensures due { depth ≤ MOST_LEVELS → result ≡ code a.Short → ItemLacks Any depth bytes.now report.new.place }
     ensures argument { MOST_LEVELS < depth → (result ≡ code a.Argument) × Reports report.new 0 0 0 }
     ensures skipped { depth ≤ MOST_LEVELS
         → (answer : CllAnswer) × (result ≡ code answer) × Skips depth bytes.now answer report.new }
@@ -294,11 +296,11 @@ pub extern "C" fn cll_item_parse<'a>(
     item: &mut CllItem<'a>,
     report: &mut CllReport,
 ) -> u32
-    ensures exactly { depth ≤ MOST_LEVELS → (result ≡ code a.Ok ↔ BeginsWithItem false depth bytes.now) }
+    ensures exactly { depth ≤ MOST_LEVELS → (result ≡ code a.Ok ↔ BeginsWithItem Any depth bytes.now) }
     ensures parsed { result ≡ code a.Ok
         → Views depth bytes.now item.new × (report.new.consumed ≡ length item.new.bytes.now) }
     ensures kept { result ≢ code a.Ok → item.new ≡ item.old }
-    ensures due { depth ≤ MOST_LEVELS → result ≡ code a.Short → ItemLacks false depth bytes.now report.new.place }
+    ensures due { depth ≤ MOST_LEVELS → result ≡ code a.Short → ItemLacks Any depth bytes.now report.new.place }
     ensures argument { MOST_LEVELS < depth → (result ≡ code a.Argument) × Reports report.new 0 0 0 }
     ensures skipped { depth ≤ MOST_LEVELS
         → (answer : CllAnswer) × (result ≡ code answer) × Skips depth bytes.now answer report.new }
@@ -451,7 +453,7 @@ pub extern "C" fn cll_utf8(bytes: &[u8], report: &mut CllReport) -> u32
 /// - `Argument`: the depth is above 256.
 #[unsafe(no_mangle)]
 pub extern "C" fn cll_checker_init(checker: &mut CllChecker, depth: u32) -> u32
-    ensures set_up { depth ≤ MOST_LEVELS → (result ≡ code a.Ok) × IsSetUp false depth checker.new }
+    ensures set_up { depth ≤ MOST_LEVELS → (result ≡ code a.Ok) × IsSetUp Any depth checker.new }
     ensures argument { MOST_LEVELS < depth → (result ≡ code a.Argument) × (checker.new ≡ checker.old) }
 {
     capi::cll_checker_init(checker, depth)
@@ -461,7 +463,7 @@ pub extern "C" fn cll_checker_init(checker: &mut CllChecker, depth: u32) -> u32
 /// and so is a string of indefinite length inside another one.
 #[unsafe(no_mangle)]
 pub extern "C" fn cll_checker_init_strict(checker: &mut CllChecker, depth: u32) -> u32
-    ensures set_up { depth ≤ MOST_LEVELS → (result ≡ code a.Ok) × IsSetUp true depth checker.new }
+    ensures set_up { depth ≤ MOST_LEVELS → (result ≡ code a.Ok) × IsSetUp Shortest depth checker.new }
     ensures argument { MOST_LEVELS < depth → (result ≡ code a.Argument) × (checker.new ≡ checker.old) }
 {
     capi::cll_checker_init_strict(checker, depth)
@@ -484,9 +486,9 @@ pub extern "C" fn cll_checker_feed(
     bytes: &[u8],
     report: &mut CllReport,
 ) -> u32
-    ensures fed { (strict : Bool) (depth : ℕ) (read : List ℕ) → IsKept strict depth read checker.old
+    ensures fed { (allowed : Spelling) (depth : ℕ) (read : List ℕ) → IsKept allowed depth read checker.old
         → (answer : CllAnswer) × (result ≡ code answer)
-        × Feeds strict depth read bytes.now answer report.new checker.new }
+        × Feeds allowed depth read bytes.now answer report.new checker.new }
     ensures answers { IsCode result }
     ensures within { TakesWithin bytes.now report.new }
     ensures argument { IsNoChecker checker.old
@@ -504,8 +506,8 @@ pub extern "C" fn cll_checker_feed(
 /// - `Syntax`, `BreakDue`, `TooDeep`, `Argument`: as of [`cll_checker_feed`].
 #[unsafe(no_mangle)]
 pub extern "C" fn cll_checker_end(checker: &CllChecker, report: &mut CllReport) -> u32
-    ensures ended { (strict : Bool) (depth : ℕ) (read : List ℕ) → IsKept strict depth read checker.now
-        → (answer : CllAnswer) × (result ≡ code answer) × EndsFed strict depth read answer report.new }
+    ensures ended { (allowed : Spelling) (depth : ℕ) (read : List ℕ) → IsKept allowed depth read checker.now
+        → (answer : CllAnswer) × (result ≡ code answer) × EndsFed allowed depth read answer report.new }
     ensures answers { IsCode result }
     ensures argument { IsNoChecker checker.now → (result ≡ code a.Argument) × Reports report.new 0 0 0 }
 {
@@ -578,7 +580,7 @@ pub extern "C" fn cll_copier_end(copier: &CllCopier, report: &mut CllReport) -> 
 /// - `Argument`: the depth is above 256.
 #[unsafe(no_mangle)]
 pub extern "C" fn cll_item_copier_init(copier: &mut CllItemCopier, depth: u32) -> u32
-    ensures set_up { depth ≤ MOST_LEVELS → (result ≡ code a.Ok) × IsItemSetUp false depth copier.new }
+    ensures set_up { depth ≤ MOST_LEVELS → (result ≡ code a.Ok) × IsItemSetUp Any depth copier.new }
     ensures argument { MOST_LEVELS < depth → (result ≡ code a.Argument) × (copier.new ≡ copier.old) }
 {
     capi::cll_item_copier_init(copier, depth)
@@ -591,7 +593,7 @@ pub extern "C" fn cll_item_copier_init(copier: &mut CllItemCopier, depth: u32) -
 /// - `Argument`: the depth is above 256.
 #[unsafe(no_mangle)]
 pub extern "C" fn cll_item_copier_init_strict(copier: &mut CllItemCopier, depth: u32) -> u32
-    ensures set_up { depth ≤ MOST_LEVELS → (result ≡ code a.Ok) × IsItemSetUp true depth copier.new }
+    ensures set_up { depth ≤ MOST_LEVELS → (result ≡ code a.Ok) × IsItemSetUp Shortest depth copier.new }
     ensures argument { MOST_LEVELS < depth → (result ≡ code a.Argument) × (copier.new ≡ copier.old) }
 {
     capi::cll_item_copier_init_strict(copier, depth)
@@ -613,9 +615,9 @@ pub extern "C" fn cll_item_copier_feed(
     out: &mut [u8],
     report: &mut CllReport,
 ) -> u32
-    ensures fed { (strict : Bool) (depth : ℕ) (read written : List ℕ)
-        → IsItemCopyKept strict depth read written copier.old → (answer : CllAnswer) × (result ≡ code answer)
-        × FeedsItem strict depth read written bytes.now out.old answer out.new report.new copier.new }
+    ensures fed { (allowed : Spelling) (depth : ℕ) (read written : List ℕ)
+        → IsItemCopyKept allowed depth read written copier.old → (answer : CllAnswer) × (result ≡ code answer)
+        × FeedsItem allowed depth read written bytes.now out.old answer out.new report.new copier.new }
     ensures answers { IsCode result }
     ensures within { StaysWithin bytes.now out.old out.new report.new }
     ensures argument { IsNoItemCopier copier.old → (result ≡ code a.Argument) × (copier.new ≡ copier.old)
@@ -634,9 +636,9 @@ pub extern "C" fn cll_item_copier_feed(
 /// - `Syntax`, `BreakDue`, `TooDeep`, `Argument`: as of [`cll_item_copier_feed`].
 #[unsafe(no_mangle)]
 pub extern "C" fn cll_item_copier_end(copier: &CllItemCopier, report: &mut CllReport) -> u32
-    ensures ended { (strict : Bool) (depth : ℕ) (read written : List ℕ)
-        → IsItemCopyKept strict depth read written copier.now → (answer : CllAnswer) × (result ≡ code answer)
-        × EndsItem strict depth read written answer report.new }
+    ensures ended { (allowed : Spelling) (depth : ℕ) (read written : List ℕ)
+        → IsItemCopyKept allowed depth read written copier.now → (answer : CllAnswer) × (result ≡ code answer)
+        × EndsItem allowed depth read written answer report.new }
     ensures answers { IsCode result }
     ensures argument { IsNoItemCopier copier.now → (result ≡ code a.Argument) × Reports report.new 0 0 0 }
 {

@@ -1,16 +1,18 @@
 -- Laws of the rewriting, and of its refusals.
 use Rattle.std.proofs.Common.{◌≡◌, ℕ, ◌+◌, ◌-◌, ◌<◌, ◌≤◌, List, [], ◌∷◌, ◌++◌, length, length-append, refl, sym, ◌∙◌}
-use Rattle.std.proofs.Common.{ap, ap₂, subst, arith, append-nil, append_assoc, take, drop, take-append-drop, false, Bool}
+use Rattle.std.proofs.Common.{ap, ap₂, subst, arith, append-nil, append_assoc, take, drop, take-append-drop, false}
 use Rattle.std.proofs.Common.{IsTrue, Some, Result, Ok, Err, MatchResult}
 use Rattle.cbor_skip.specs.Due.{ItemDue}
 use Rattle.cbor_deterministic.specs.declared.TheConstants.{MAX_DEPTH}
 use Rattle.cbor_canonical.specs.Meeting.{IsSameKey}
 use Rattle.cbor_canonical.specs.Refusals.{HasSameKey}
 use Rattle.ciborium_ll_io.specs.declared.io.Read.{Ghosts}
+use Rattle.ciborium_ll_grammar.specs.declared.spelling.Spelling.{Spelling}
+use Rattle.ciborium_ll_grammar.specs.declared.spelling.Spelling.TheVariants.{Any}
 use Rattle.ciborium_ll_grammar.specs.Items.{IsItem}
 use Rattle.ciborium_ll_decoder.specs.declared.dec.Decoder.{Decoder}
 use Rattle.ciborium_ll_decoder.specs.declared.dec.Error.TheVariants as e
-use Rattle.ciborium_ll_decoder.specs.Decoding.{IsFresh, offset_limit, strict_of}
+use Rattle.ciborium_ll_decoder.specs.Decoding.{IsFresh, offset_limit, spelling_of}
 use Rattle.ciborium_ll_decoder.proofs.BodyLaws.{view_none}
 use Rattle.ciborium_ll_grammar.specs.Faults.{Syntax}
 use Rattle.cbor_skip.specs.declared.SkipError.{SkipError}
@@ -63,15 +65,15 @@ again ord d other f w i r =
     (subst (λ (z : Value). Same r.same z) o (same_sym r.to))
 
 pub refused_has_none : (d place : ℕ) (bytes item rest : List ℕ) (why : Why) → HasRefusal d bytes why place
-    → IsItem false d item → IsFittingSpelling item → bytes ≡ item ++ rest → ⊥
+    → IsItem Any d item → IsFittingSpelling item → bytes ≡ item ++ rest → ⊥
 refused_has_none d place bytes item rest w.Cut h i g z =
-    no_item_fault false d bytes (record { item = item; rest = rest; is_item = i; is = z }) h.0
+    no_item_fault Any d bytes (record { item = item; rest = rest; is_item = i; is = z }) h.0
 refused_has_none d place bytes item rest w.Malformed h i g z =
-    no_item_fault false d bytes (record { item = item; rest = rest; is_item = i; is = z }) h.0
+    no_item_fault Any d bytes (record { item = item; rest = rest; is_item = i; is = z }) h.0
 refused_has_none d place bytes item rest w.Break h i g z =
-    no_early_break false d bytes (record { item = item; rest = rest; is_item = i; is = z }) h.0
+    no_early_break Any d bytes (record { item = item; rest = rest; is_item = i; is = z }) h.0
 refused_has_none d place bytes item rest w.Deep h i g z =
-    no_deep_nest false d bytes (record { item = item; rest = rest; is_item = i; is = z }) h.0
+    no_deep_nest Any d bytes (record { item = item; rest = rest; is_item = i; is = z }) h.0
 refused_has_none d place bytes item rest w.NoSimple h i g z =
     h.1 rest (record { front = item; is = record { value = g.value; encodes = g.encodes }; whole = z })
 refused_has_none d place bytes item rest w.DuplicateKey h i g z =
@@ -93,9 +95,9 @@ module _ {R E : Type 0} (source : Ghosts R E) where
   }
 
   refusal_go : (d offset : ℕ) (bytes : List ℕ) (old new : Decoder R) (skipped : Result (Unit {0}) (SkipError E))
-      (result : Result ℕ Refusal) → SkipsTold source false d bytes old skipped new → old.offset ≡ 0
+      (result : Result ℕ Refusal) → SkipsTold source Any d bytes old skipped new → old.offset ≡ 0
       → offset ≡ new.offset → IsRefusalOf (length bytes) offset skipped result
-      → MatchResult result (λ len. (front : BeginsWithItem false d bytes) × (len ≡ length front.item))
+      → MatchResult result (λ len. (front : BeginsWithItem Any d bytes) × (len ≡ length front.item))
       (λ r. HasRefusal d bytes r.why r.place)
   refusal_go d offset bytes old new (Ok done) (Ok other) told start end is =
       (told.front, omega (arith, is, end, told.offset, start))
@@ -117,36 +119,36 @@ module _ {R E : Type 0} (source : Ghosts R E) where
   refusal_go d offset bytes old new (Err (s.Read e.Waiting)) result told start end is = absurd told
 
   pub refusal_said : (d offset : ℕ) (bytes : List ℕ) (old new : Decoder R) (skipped : Result (Unit {0}) (SkipError E))
-      (result : Result ℕ Refusal) → SkipsTold source (strict_of old) d bytes old skipped new
-      → strict_of old ≡ false → old.offset ≡ 0 → offset ≡ new.offset → IsRefusalOf (length bytes) offset skipped result
-      → MatchResult result (λ len. (front : BeginsWithItem false d bytes) × (len ≡ length front.item))
+      (result : Result ℕ Refusal) → SkipsTold source (spelling_of old) d bytes old skipped new
+      → spelling_of old ≡ Any → old.offset ≡ 0 → offset ≡ new.offset → IsRefusalOf (length bytes) offset skipped result
+      → MatchResult result (λ len. (front : BeginsWithItem Any d bytes) × (len ≡ length front.item))
       (λ r. HasRefusal d bytes r.why r.place)
   refusal_said d offset bytes old new skipped result told mode start end is =
       refusal_go d offset bytes old new skipped result
-      (subst (λ (b : Bool). SkipsTold source b d bytes old skipped new) mode told) start end is
+      (subst (λ (b : Spelling). SkipsTold source b d bytes old skipped new) mode told) start end is
 
 -- ---- the answer
 
 -- The bytes before the length of the item that begins them are the item.
-pub item_split : (d len : ℕ) (bytes : List ℕ) (front : BeginsWithItem false d bytes) → len ≡ length front.item
-    → (len ≤ length bytes) × IsItem false d (take len bytes) × (bytes ≡ take len bytes ++ drop len bytes)
+pub item_split : (d len : ℕ) (bytes : List ℕ) (front : BeginsWithItem Any d bytes) → len ≡ length front.item
+    → (len ≤ length bytes) × IsItem Any d (take len bytes) × (bytes ≡ take len bytes ++ drop len bytes)
 item_split d len bytes front e =
     let same : take len bytes ≡ front.item =
     ap₂ (λ (n : ℕ) (w : List ℕ). take n w) e front.is ∙ take-append_seam front.item front.rest in (
       omega (arith, e, ap (length {A = ℕ}) front.is, length-append front.item front.rest),
-      subst (IsItem false d) (sym same) front.is_item,
+      subst (IsItem Any d) (sym same) front.is_item,
       sym (take-append-drop len bytes),
     )
 
 -- An item begins its own bytes.
-pub alone : (d : ℕ) (item : List ℕ) → IsItem false d item → BeginsWithItem false d item
+pub alone : (d : ℕ) (item : List ℕ) → IsItem Any d item → BeginsWithItem Any d item
 alone d item i = record { item = item; rest = []; is_item = i; is = sym (append-nil item) }
 
 -- What a call writes for an item alone.
-pub item_written : (ord : Order) (d : ℕ) (item rest start written : List ℕ) → start ≡ [] → IsItem false d item
+pub item_written : (ord : Order) (d : ℕ) (item rest start written : List ℕ) → start ≡ [] → IsItem Any d item
     → Turns (IsRewritten ord d) item rest start written → IsRewritten ord d item written
 item_written ord d item rest start written e i t =
-    let one = one_item false false d d t.front item rest [] t.is.is_item i (sym t.whole ∙ sym (append-nil item)) in
+    let one = one_item Any Any d d t.front item rest [] t.is.is_item i (sym t.whole ∙ sym (append-nil item)) in
     subst (λ (z : List ℕ). IsRewritten ord d z written) one.0
     (subst (λ (z : List ℕ). IsRewritten ord d t.front z)
     (sym (t.wrote ∙ ap (λ (z : List ℕ). z ++ t.written) e)) t.is)
@@ -162,20 +164,20 @@ first_written ord d bytes rest start written e t = record {
 }
 
 -- What is refused of an item is refused of the bytes that it begins.
-pub unwritten_more : (d : ℕ) (bytes item rest : List ℕ) (error : CanonicalError) → IsItem false d item
+pub unwritten_more : (d : ℕ) (bytes item rest : List ℕ) (error : CanonicalError) → IsItem Any d item
     → bytes ≡ item ++ rest → IsUnwritten d item error → IsUnwritten d bytes error
 unwritten_more d bytes item rest Memory i z q =
     record { item = item; rest = rest; is_item = i; is = z }
 unwritten_more d bytes item rest (Refused r) i z q = go r.why r.place q
   where
-    all : BeginsWithItem false d bytes
+    all : BeginsWithItem Any d bytes
     all = record { item = item; rest = rest; is_item = i; is = z }
 
     go : (why : Why) (place : ℕ) → HasRefusal d item why place → HasRefusal d bytes why place
-    go w.Cut place h = absurd (no_item_fault false d item (alone d item i) h.0)
-    go w.Malformed place h = absurd (no_item_fault false d item (alone d item i) h.0)
-    go w.Break place h = absurd (no_early_break false d item (alone d item i) h.0)
-    go w.Deep place h = absurd (no_deep_nest false d item (alone d item i) h.0)
+    go w.Cut place h = absurd (no_item_fault Any d item (alone d item i) h.0)
+    go w.Malformed place h = absurd (no_item_fault Any d item (alone d item i) h.0)
+    go w.Break place h = absurd (no_early_break Any d item (alone d item i) h.0)
+    go w.Deep place h = absurd (no_deep_nest Any d item (alone d item i) h.0)
     go w.NoSimple place h = (
       all,
       none_more IsSpelling d bytes item rest (λ f s. s) i z h.1,
@@ -233,7 +235,7 @@ pub is_canonical : (ord : Order) (d : ℕ) (bytes item rest written : List ℕ) 
 is_canonical ord d bytes item rest written z r = record { item = item; whole = z; is = r }
 
 -- Memory that is too small for an item is too small for the bytes that it begins.
-pub lacks_memory : (order : Order) (d room places : ℕ) (bytes item rest : List ℕ) → IsItem false d item
+pub lacks_memory : (order : Order) (d room places : ℕ) (bytes item rest : List ℕ) → IsItem Any d item
     → bytes ≡ item ++ rest → IsTooSmall (length item) room places
     → ((len : ℕ) → HasDeterministic order d bytes len → room < len) → LacksMemory order d bytes room places
 lacks_memory order d room places bytes item rest i z small kept = record {
@@ -262,7 +264,7 @@ no_simple_there d left place bytes m e =
     }
 
 pub no_simple : (d left : ℕ) (bytes : List ℕ) (stop : Stop) (error : CanonicalError)
-    → HasWhy w.NoSimple (length bytes - left) error → BeginsWithItem false d bytes → stop ≡ st.NoSimple left
+    → HasWhy w.NoSimple (length bytes - left) error → BeginsWithItem Any d bytes → stop ≡ st.NoSimple left
     → FailsItem d bytes stop → IsUnwritten d bytes error
 no_simple d left bytes stop (Refused r) e i s q =
     let f = subst (λ (z : Stop). FailsItem d bytes z) s q in
@@ -283,7 +285,7 @@ same_key_there d left place bytes m e =
       count = k.count;
       levels = k.inner;
       closable = due.0;
-      item_due = subst (λ (n : ℕ). ItemDue false false d m.before n due.0) k.deeper due.1;
+      item_due = subst (λ (n : ℕ). ItemDue Any false d m.before n due.0) k.deeper due.1;
       is_title = k.is_title;
       pairs = k.pairs;
       front = k.front;
@@ -320,14 +322,14 @@ same_key_there d left place bytes m e =
     }
 
 pub duplicate_key : (d left : ℕ) (bytes : List ℕ) (stop : Stop) (error : CanonicalError)
-    → HasWhy w.DuplicateKey (length bytes - left) error → BeginsWithItem false d bytes → stop ≡ st.Duplicate left
+    → HasWhy w.DuplicateKey (length bytes - left) error → BeginsWithItem Any d bytes → stop ≡ st.Duplicate left
     → d ≤ MAX_DEPTH → FailsItem d bytes stop → IsUnwritten d bytes error
 duplicate_key d left bytes stop (Refused r) e i s shallow q =
     let f = subst (λ (z : Stop). FailsItem d bytes z) s q in
     rw e.0 (i, f.0, same_key_there d left r.place bytes (f.1 shallow) e.1)
 duplicate_key d left bytes stop Memory e i s shallow q = i
 
-pub item_there : (d : ℕ) (bytes : List ℕ) (stop : Stop) → BeginsWithItem false d bytes → stop ≡ st.Malformed
+pub item_there : (d : ℕ) (bytes : List ℕ) (stop : Stop) → BeginsWithItem Any d bytes → stop ≡ st.Malformed
     → FailsItem d bytes stop → ⊥
 item_there d bytes stop i s q =
     (subst (λ (z : Stop). FailsItem d bytes z) s q).0 i.rest

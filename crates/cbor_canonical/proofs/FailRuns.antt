@@ -4,6 +4,7 @@ use Rattle.std.proofs.Common.{Option, Some, None, refl, sym, ◌∙◌, ap, subs
 use Rattle.std.proofs.Common.{nat_lt}
 use Rattle.std.proofs.Common.{length-append}
 use Rattle.std.proofs.lemmas.Bool.Decides.{nat_tests}
+use Rattle.ciborium_ll_grammar.specs.declared.spelling.Spelling.TheVariants.{Any}
 use Rattle.ciborium_ll_grammar.specs.declared.hdr.Header.{Header}
 use Rattle.ciborium_ll_grammar.specs.declared.hdr.Header.TheVariants as h
 use Rattle.ciborium_ll_grammar.specs.Title.{HasFirstTitle, HasNoTitle, IsTitle, IsSmallSimple}
@@ -51,7 +52,7 @@ use Rattle.ciborium_ll_grammar.proofs.FrontLaws.{no_title_there}
 
 -- An item to the depth that is a spelling of a value.
 pub record IsRead (d : ℕ) (w : List ℕ) : Type 0 where
-  pub is_item : IsItem false d w
+  pub is_item : IsItem Any d w
   pub value : Value
   pub spelled : Encodes value w
 
@@ -86,27 +87,27 @@ read_pairs {ord = ord} d n bytes es q e = subst (λ (m : ℕ). AreJoined (IsPair
           whole = r.whole;
         }) (go o ys rs)
 
-pub are_read : (d n : ℕ) (w : List ℕ) → AreJoined (IsRead d) n w → AreItems false d n w
+pub are_read : (d n : ℕ) (w : List ℕ) → AreJoined (IsRead d) n w → AreItems Any d n w
 are_read d n w none_joined = none_any
 are_read d n w (more_joined {count = k} {first = f} {others = o} p ps) =
-    item_before false d k f o p.is_item (are_read d k o ps)
+    item_before Any d k f o p.is_item (are_read d k o ps)
 
-pub pairs_read : (d n : ℕ) (w : List ℕ) → AreJoined (IsPairRead d) n w → AreItems false d (2 * n) w
+pub pairs_read : (d n : ℕ) (w : List ℕ) → AreJoined (IsPairRead d) n w → AreItems Any d (2 * n) w
 pairs_read d n w none_joined = none_any
 pairs_read d n w (more_joined {count = k} {first = f} {others = o} p ps) =
     let two : suc (suc (2 * k)) ≡ 2 * suc k = omega arith in
-    subst (λ (j : ℕ). AreItems false d j (f ++ o)) two
-    (subst (λ (z : List ℕ). AreItems false d (suc (suc (2 * k))) z)
+    subst (λ (j : ℕ). AreItems Any d j (f ++ o)) two
+    (subst (λ (z : List ℕ). AreItems Any d (suc (suc (2 * k))) z)
     (sym (ap (λ (z : List ℕ). z ++ o) p.whole ∙ append_assoc p.key p.value o))
-    (item_before false d (suc (2 * k)) p.key (p.value ++ o) p.key_is.is_item
-    (item_before false d (2 * k) p.value o p.value_is.is_item (pairs_read d k o ps))))
+    (item_before Any d (suc (2 * k)) p.key (p.value ++ o) p.key_is.is_item
+    (item_before Any d (2 * k) p.value o p.value_is.is_item (pairs_read d k o ps))))
 
 -- The same bytes and the same rest.
 abbrev SameFront : List ℕ → List ℕ → List ℕ → List ℕ → Type 0
 SameFront f g s t = (f ≡ g) × (s ≡ t)
 
 agree : (d : ℕ) (stop : Stop) (f g s t : List ℕ) → IsRead d f → IsMissed d stop g → f ++ s ≡ g ++ t → SameFront f g s t
-agree d st.Malformed f g s t p q z = one_any false false d d f g s t p.is_item q z
+agree d st.Malformed f g s t p q z = one_any Any Any d d f g s t p.is_item q z
 agree d (st.NoSimple left) f g s t p q z =
     let o = one_value p.value f p.spelled q.value g s t q.encodes z in (o.1, o.2)
 agree d (st.Duplicate left) f g s t p q z =
@@ -151,7 +152,7 @@ read_some d f p = value_some p.value f p.spelled
 pair_some : (d : ℕ) (f : List ℕ) → IsPairRead d f → 0 < length f
 pair_some d f p = omega (arith, ap (length {A = ℕ}) p.whole, length-append p.key p.value, read_some d p.key p.key_is)
 
-item_some : (d k : ℕ) (w : List ℕ) → AreItems false d k w → k ≡ 1 → 0 < length w
+item_some : (d k : ℕ) (w : List ℕ) → AreItems Any d k w → k ≡ 1 → 0 < length w
 item_some d k w none_any e = absurd (omega arith)
 item_some d k w (more_any {title = t} {rest = r} {others = o} {header = x} p s c q) e =
     omega (arith, length-append t (r ++ o), title_some t x p)
@@ -292,7 +293,7 @@ value_stops d stop bytes after old new t fails = (
 
 -- The contents that complete an item which the call misses.
 abbrev pub Completing : ℕ → Stop → Header → List ℕ → Type 0
-Completing d st.Malformed y r = CompletesAny false d y r
+Completing d st.Malformed y r = CompletesAny Any d y r
 Completing d (st.NoSimple left) y r = (v : Value) × Follows y v r
 Completing d (st.Duplicate left) y r = (v : Value) × Follows y v r × Fits v
 Completing d st.Room y r = ⊥
@@ -302,10 +303,10 @@ record ItemParts (d : ℕ) (w : List ℕ) : Type 0 where
   pub rest : List ℕ
   pub header : Header
   pub is_title : IsTitle title header
-  pub completes : CompletesAny false d header rest
+  pub completes : CompletesAny Any d header rest
   pub whole : w ≡ title ++ rest
 
-item_parts : (d k : ℕ) (w : List ℕ) → AreItems false d k w → k ≡ 1 → ItemParts d w
+item_parts : (d k : ℕ) (w : List ℕ) → AreItems Any d k w → k ≡ 1 → ItemParts d w
 item_parts d k w none_any e = absurd (omega arith)
 item_parts d k w (more_any {count = j} {title = t} {rest = r} {others = o} {header = x} p s c q) e = record {
   title = t;
@@ -316,7 +317,7 @@ item_parts d k w (more_any {count = j} {title = t} {rest = r} {others = o} {head
   whole = ap (λ (v : List ℕ). t ++ v) (ap (λ (v : List ℕ). r ++ v) (nothing j o q (omega arith)) ∙ append-nil r);
 }
   where
-    nothing : (j : ℕ) (y : List ℕ) → AreItems false d j y → j ≡ 0 → y ≡ []
+    nothing : (j : ℕ) (y : List ℕ) → AreItems Any d j y → j ≡ 0 → y ≡ []
     nothing j y none_any z = refl
     nothing j y (more_any p s c q) z = absurd (omega arith)
 
@@ -340,7 +341,7 @@ after_title d st.Malformed y t bytes rest p f =
     (f.whole ∙ ap (λ (v : List ℕ). v ++ rest) q.whole ∙ append_assoc q.title q.rest rest) in
     record {
       front = q.rest;
-      is = subst (λ (x : Header). CompletesAny false d x q.rest) (sym o.1) q.completes;
+      is = subst (λ (x : Header). CompletesAny Any d x q.rest) (sym o.1) q.completes;
       whole = o.2;
     }
 after_title d (st.NoSimple left) y t bytes rest p f =
@@ -389,7 +390,7 @@ pub after_stops : (e d left : ℕ) (stop : Stop) (y x : Header) (bytes : List �
     → FailsRest (suc d) x bytes stop → FailsAfter e y bytes left stop
 after_stops e d left stop y x bytes is deep fails = rw (is, ← deep) (λ t p l. fails t p)
 
-break_completes : (d : ℕ) (x : Header) (r : List ℕ) → CompletesAny false d x r → x ≡ h.Break → ⊥
+break_completes : (d : ℕ) (x : Header) (r : List ℕ) → CompletesAny Any d x r → x ≡ h.Break → ⊥
 break_completes d x r c e = grind arith
 
 pub break_stops : (d left : ℕ) (y : Header) (bytes : List ℕ) → y ≡ h.Break → FailsAfter d y bytes left st.Malformed
@@ -400,7 +401,7 @@ break_stops d left y bytes e t p l =
 abbrev pub IsNestOf : Header → Type 0
 IsNestOf y = ((n : ℕ) × (y ≡ h.Tag n)) ⊎ (((o : Option ℕ) × (y ≡ h.Array o)) ⊎ ((o : Option ℕ) × (y ≡ h.Map o)))
 
-deep_completes : (d : ℕ) (x : Header) (r : List ℕ) → CompletesAny false d x r → d ≡ 0 → IsNest x → ⊥
+deep_completes : (d : ℕ) (x : Header) (r : List ℕ) → CompletesAny Any d x r → d ≡ 0 → IsNest x → ⊥
 deep_completes d x r any_positive e n = n
 deep_completes d x r any_negative e n = n
 deep_completes d x r any_float e n = n
@@ -438,7 +439,7 @@ small_stops d n left y bytes e l t p long = (
 
 -- ---- strings
 
-content_of : (d : ℕ) (k : Kind) (len : Option ℕ) (r : List ℕ) → CompletesAny false d (kind_header k len) r
+content_of : (d : ℕ) (k : Kind) (len : Option ℕ) (r : List ℕ) → CompletesAny Any d (kind_header k len) r
     → (body : List ℕ) × IsContent k len r body
 content_of d OfBytes len r (any_bytes l) = (r, subst (λ (n : ℕ). IsContent OfBytes (Some n) r r) l (told tt))
 content_of d OfText len r (any_text l w) = (r, subst (λ (n : ℕ). IsContent OfText (Some n) r r) l (told w))
@@ -454,7 +455,7 @@ pub string_stops : (d left : ℕ) (stop : Stop) (k : Kind) (len : Option ℕ) (y
 string_stops d at st.Malformed k len y bytes e fails = λ t p l. (
   λ rest f.
       let g = after_title d st.Malformed y t bytes rest p f in
-      let c = content_of d k len g.front (subst (λ (x : Header). CompletesAny false d x g.front) e g.is) in
+      let c = content_of d k len g.front (subst (λ (x : Header). CompletesAny Any d x g.front) e g.is) in
       fails g.front c.0 rest c.1 g.whole,
   tt,
 )
@@ -496,11 +497,11 @@ told_parts P n r j =
 open_parts : (P : List ℕ → Type 0) (n : ℕ) (r : List ℕ) → AreJoined P n r → NestParts P None (r ++ 0xff ∷ [])
 open_parts P n r j = record { done = n; items = r; tail = 0xff ∷ []; joined = j; ends = at_break; whole = refl }
 
-items_joined : (d n : ℕ) (w : List ℕ) → AreItems false d n w → AreJoined (λ v. IsItem false d v) n w
+items_joined : (d n : ℕ) (w : List ℕ) → AreItems Any d n w → AreJoined (λ v. IsItem Any d v) n w
 items_joined d n w none_any = none_joined
 items_joined d n w (more_any {title = t} {rest = r} {others = o} {header = x} p s c q) =
-    subst (λ (v : List ℕ). AreJoined (λ v. IsItem false d v) n v) (append_assoc t r o)
-    (more_joined (item_of false d t r x p tt c) (items_joined d _ o q))
+    subst (λ (v : List ℕ). AreJoined (λ v. IsItem Any d v) n v) (append_assoc t r o)
+    (more_joined (item_of Any d t r x p tt c) (items_joined d _ o q))
 
 values_joined : (vs : Values) (w : List ℕ) → EncodeAll vs w → AreJoined IsSpelling (item_count vs) w
 values_joined vs w encode_end = none_joined
@@ -537,7 +538,7 @@ array_stops d stop o bytes fails t p = (
   fault_nest d (h.Array o) stop t bytes p fails.1,
 )
 
-two_items : (d n k : ℕ) (w : List ℕ) → AreItems false d k w → k ≡ 2 * n → AreJoined (ArePairMissed d st.Malformed) n w
+two_items : (d n k : ℕ) (w : List ℕ) → AreItems Any d k w → k ≡ 2 * n → AreJoined (ArePairMissed d st.Malformed) n w
 two_items d zero k w none_any e = none_joined
 two_items d (suc n) k w none_any e = absurd (omega arith)
 two_items d zero k w (more_any p s c q) e = absurd (omega arith)
@@ -550,8 +551,8 @@ two_items d (suc n) k w (more_any {title = t} {rest = r} {header = x} p s c
     (more_joined (record {
       key = t ++ r;
       value = t' ++ r';
-      key_is = item_of false d t r x p tt c;
-      value_is = item_of false d t' r' x' p' tt c';
+      key_is = item_of Any d t r x p tt c;
+      value_is = item_of Any d t' r' x' p' tt c';
       whole = refl;
     }) (two_items d n j o q (omega arith)))
 

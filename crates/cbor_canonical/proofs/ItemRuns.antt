@@ -1,7 +1,8 @@
 -- The rewriting of each kind of item.
 use Rattle.std.proofs.Common.{◌≡◌, ℕ, suc, ◌+◌, ◌<◌, ◌≤◌, ◌^◌, ◌⊎◌, inl, inr, List, [], ◌∷◌, ◌++◌, length}
-use Rattle.std.proofs.Common.{Option, Some, None, refl, sym, ◌∙◌, ap, subst, arith, append_assoc, append-nil, false, take}
+use Rattle.std.proofs.Common.{Option, Some, None, refl, sym, ◌∙◌, ap, subst, arith, append_assoc, append-nil, take}
 use Rattle.ciborium_ll_text.specs.Text.{joined}
+use Rattle.ciborium_ll_grammar.specs.declared.spelling.Spelling.TheVariants.{Any}
 use Rattle.ciborium_ll_grammar.specs.declared.hdr.Header.{Header}
 use Rattle.ciborium_ll_grammar.specs.declared.hdr.Header.TheVariants as h
 use Rattle.ciborium_ll_grammar.specs.declared.hdr.Float.{Float as AnyFloat}
@@ -56,13 +57,13 @@ two_pieces old mid new a b e f = f ∙ ap (λ (z : List ℕ). z ++ b) e ∙ appe
 
 -- A shortest title and contents are the rewriting of an item whose value is the same.
 pub made : {ord : Order} (d : ℕ) (y x : Header) (v w : Value) (t front rest : List ℕ) → IsTitle t y
-    → CompletesAny false d y front → Follows y v front → Fits v → IsInRange x → (IsSmallSimple x → ⊥)
+    → CompletesAny Any d y front → Follows y v front → Fits v → IsInRange x → (IsSmallSimple x → ⊥)
     → (IsIndefinite x → ⊥) → (IsWide x → ⊥) → Completes ord d x rest → Follows x w rest → Same v w
     → IsRewritten ord d (t ++ front) (shortest_title x ++ rest)
 made d y x v w t front rest p c f fit r s i wide k g to =
     let q = shortest_preferred x r s i wide in
     record {
-      is_item = item_of false d t front y p tt c;
+      is_item = item_of Any d t front y p tt c;
       value = v;
       same = w;
       spelled = encodes p f;
@@ -213,12 +214,12 @@ nest_turned e d y x bytes rest at end old new is deep g = rw (is, ← deep) g
 -- ---- items
 
 -- One item and n items after it, joined, are n + 1 items.
-pub join : (d n : ℕ) (w others : List ℕ) → IsItem false d w → AreItems false d n others
-    → AreItems false d (suc n) (w ++ others)
-join d n w others i is = item_before false d n w others i is
+pub join : (d n : ℕ) (w others : List ℕ) → IsItem Any d w → AreItems Any d n others
+    → AreItems Any d (suc n) (w ++ others)
+join d n w others i is = item_before Any d n w others i is
 
 pub record AllOf (ord : Order) (d n : ℕ) (bytes written : List ℕ) : Type 0 where
-  pub items : AreItems false d n bytes
+  pub items : AreItems Any d n bytes
   pub values : Values
   pub same : Values
   pub spelled : EncodeAll values bytes
@@ -259,10 +260,10 @@ all_of d n bytes written (more_rewritten {count = m} {bytes = f} {others = fs} {
     }
 
 -- The items of an array, and its end, complete the array.
-array_completes : (d n : ℕ) (o : Option ℕ) (items tail : List ℕ) → EndsNest o n tail → AreItems false d n items
-    → CompletesAny false (suc d) (h.Array o) (items ++ tail)
+array_completes : (d n : ℕ) (o : Option ℕ) (items tail : List ℕ) → EndsNest o n tail → AreItems Any d n items
+    → CompletesAny Any (suc d) (h.Array o) (items ++ tail)
 array_completes d n o items tail counted i =
-    subst (λ (z : List ℕ). CompletesAny false (suc d) (h.Array (Some n)) z) (sym (append-nil items)) (any_array i)
+    subst (λ (z : List ℕ). CompletesAny Any (suc d) (h.Array (Some n)) z) (sym (append-nil items)) (any_array i)
 array_completes d n o items tail at_break i = any_open_array i
 
 array_follows : (n : ℕ) (o : Option ℕ) (vs : Values) (items tail : List ℕ) → EndsNest o n tail → item_count vs ≡ n

@@ -1,9 +1,10 @@
 -- An item in the deterministic encoding is rewritten to itself.
 use Rattle.std.proofs.Common.{◌≡◌, ℕ, zero, suc, ◌+◌, ◌<◌, ◌≤◌, ◌^◌, ◌⊎◌, inl, inr, List, [], ◌∷◌, ◌++◌, length}
-use Rattle.std.proofs.Common.{Some, refl, sym, ◌∙◌, ap, subst, arith, append_assoc, append-nil, false, take, drop}
+use Rattle.std.proofs.Common.{Some, refl, sym, ◌∙◌, ap, subst, arith, append_assoc, append-nil, take, drop}
 use Rattle.std.proofs.Common.{slice_index_or, take-append-drop, length-append, length-drop}
 use Rattle.std.proofs.lemmas.List.{length-take-le}
 use Rattle.std.proofs.lemmas.List.Sorted.{IsPermutation-refl}
+use Rattle.ciborium_ll_grammar.specs.declared.spelling.Spelling.TheVariants.{Any}
 use Rattle.ciborium_ll_grammar.specs.declared.hdr.Header.{Header}
 use Rattle.ciborium_ll_grammar.specs.declared.hdr.Header.TheVariants as h
 use Rattle.ciborium_ll_grammar.specs.Items.{Completes as CompletesAny}
@@ -39,7 +40,7 @@ use Rattle.cbor_canonical.proofs.MapRuns.{map_turned}
 
 -- A preferred title and contents in the deterministic encoding are rewritten to themselves.
 same_made : {ord : Order} (d : ℕ) (x : Header) (v w : Value) (t r : List ℕ) → IsPreferredTitle t x
-    → CompletesAny false d x r → Follows x v r → Fits v → Completes ord d x r → Follows x w r → Same v w
+    → CompletesAny Any d x r → Follows x v r → Fits v → Completes ord d x r → Follows x w r → Same v w
     → IsRewritten ord d (t ++ r) (t ++ r)
 same_made {ord = o} d x v w t r p c f fit k g to =
     subst (λ (z : List ℕ). IsRewritten o d (t ++ r) (z ++ r)) (sym p.strict.shortest)
@@ -203,7 +204,7 @@ item_some ord d w (item {title = t} {rest = r} {header = x} p c) =
     omega (arith, length-append t r, title_some t x p.is_title)
 
 module _ (ord : Order) (d len : ℕ) (bytes : List ℕ) where
-  pub begins : HasDeterministic ord d bytes len → BeginsWithItem false d bytes
+  pub begins : HasDeterministic ord d bytes len → BeginsWithItem Any d bytes
   begins has = record {
     item = take len bytes;
     rest = drop len bytes;

@@ -1,6 +1,6 @@
 -- Maps: pairs in the order of their keys.
 use Rattle.std.proofs.Common.{◌≡◌, ℕ, zero, suc, ◌+◌, ◌*◌, ◌<◌, ◌≤◌, ◌^◌, inl, inr, List, [], ◌∷◌, ◌++◌, length}
-use Rattle.std.proofs.Common.{Option, Some, refl, sym, ◌∙◌, ap, subst, arith, append_assoc, append-nil, false}
+use Rattle.std.proofs.Common.{Option, Some, refl, sym, ◌∙◌, ap, subst, arith, append_assoc, append-nil}
 use Rattle.std.proofs.Common.{slice_index_or, length-append, ◌⊎◌}
 use Rattle.std.proofs.Common.{take, take-take, take_at}
 use Rattle.std.specs.declared.cmp.Ordering.{Ordering}
@@ -15,6 +15,7 @@ use Rattle.std.proofs.lemmas.List.Sorted.{length_permutation}
 use Rattle.std.proofs.lemmas.List.Sums.{sum_by-cons}
 use Rattle.std.proofs.lemmas.List.Elements.{recursion_from_All, All-from_recursion}
 use Rattle.std.proofs.lemmas.List.{length-take-le, get_or-take}
+use Rattle.ciborium_ll_grammar.specs.declared.spelling.Spelling.TheVariants.{Any}
 use Rattle.ciborium_ll_grammar.specs.declared.hdr.Header.TheVariants as h
 use Rattle.ciborium_ll_grammar.specs.Title.{shortest_title, IsInRange}
 use Rattle.ciborium_ll_grammar.specs.Items.{Completes as CompletesAny, AreItems, no_items as none_any}
@@ -182,7 +183,7 @@ data AreEntriesOf (ord : Order) (d : ℕ) : Pairs → List Entry → Type 0 wher
       → AreEntriesOf ord d ps es → AreEntriesOf ord d (Pair k v ps) (e ∷ es)
 
 record ReadPairs (ord : Order) (d : ℕ) (bytes : List ℕ) (es : List Entry) : Type 0 where
-  pub items : AreItems false d (2 * length es) bytes
+  pub items : AreItems Any d (2 * length es) bytes
   pub list : Pairs
   pub spelled : EncodePairs list bytes
   pub count : pair_count list ≡ length es
@@ -200,8 +201,8 @@ read_pairs d bytes es (more_pairs {bytes = f} {others = o} {entry = x} {entries 
     sym (append_assoc r.key r.value o) ∙ ap (λ (z : List ℕ). z ++ o) (sym r.whole) in
     let two : suc (suc (2 * length ys)) ≡ 2 * length (x ∷ ys) = omega arith in
     record {
-      items = subst (λ (z : List ℕ). AreItems false d (2 * length (x ∷ ys)) z) assoc
-          (subst (λ (n : ℕ). AreItems false d n (r.key ++ (r.value ++ o))) two
+      items = subst (λ (z : List ℕ). AreItems Any d (2 * length (x ∷ ys)) z) assoc
+          (subst (λ (n : ℕ). AreItems Any d n (r.key ++ (r.value ++ o))) two
           (join d _ r.key (r.value ++ o) a.is_item (join d _ r.value o b.is_item q.items)));
       list = Pair a.value b.value q.list;
       spelled = subst (λ (z : List ℕ). EncodePairs (Pair a.value b.value q.list) z) assoc
@@ -368,10 +369,10 @@ twice_at (e ∷ (f ∷ es)) (suc k) l s =
 
 -- ---- the map
 
-map_completes : (d n : ℕ) (o : Option ℕ) (items tail : List ℕ) → EndsNest o n tail → AreItems false d (2 * n) items
-    → CompletesAny false (suc d) (h.Map o) (items ++ tail)
+map_completes : (d n : ℕ) (o : Option ℕ) (items tail : List ℕ) → EndsNest o n tail → AreItems Any d (2 * n) items
+    → CompletesAny Any (suc d) (h.Map o) (items ++ tail)
 map_completes d n o items tail counted i =
-    subst (λ (z : List ℕ). CompletesAny false (suc d) (h.Map (Some n)) z) (sym (append-nil items)) (any_pairs i)
+    subst (λ (z : List ℕ). CompletesAny Any (suc d) (h.Map (Some n)) z) (sym (append-nil items)) (any_pairs i)
 map_completes d n o items tail at_break i = any_open_pairs n i
 
 map_follows : (n : ℕ) (o : Option ℕ) (ps : Pairs) (items tail : List ℕ) → EndsNest o n tail → pair_count ps ≡ n
@@ -520,9 +521,9 @@ record PairOf (ord : Order) (d : ℕ) (bytes : List ℕ) (es : List Entry) (i : 
   pub others : List ℕ
   pub before : ArePairsOf ord d front (take i es)
   pub key_is : (x : Entry) → IsRewritten ord d key (slice_index_or es i x).key
-  pub value_is : IsItem false d value
+  pub value_is : IsItem Any d value
   pub many : ℕ
-  pub after : AreItems false d (2 * many) others
+  pub after : AreItems Any d (2 * many) others
   pub whole : bytes ≡ front ++ (key ++ (value ++ others))
 
 pair_of : {ord : Order} (d : ℕ) (bytes : List ℕ) (es : List Entry) (i : ℕ) → ArePairsOf ord d bytes es
@@ -599,8 +600,8 @@ repeats_met d left o bytes rest es g q t p shallow =
       is_key = one.is_item;
       more = a.many;
       between = a.value ++ a.others;
-      after = subst (λ (n : ℕ). AreItems false d n (a.value ++ a.others)) odd
-          (item_before false d (2 * a.many) a.value a.others a.value_is a.after);
+      after = subst (λ (n : ℕ). AreItems Any d n (a.value ++ a.others)) odd
+          (item_before Any d (2 * a.many) a.value a.others a.value_is a.after);
       again = b.key;
       is_again = two.is_item;
       value = one.value;
@@ -613,7 +614,7 @@ repeats_met d left o bytes rest es g q t p shallow =
           ∙ append_assoc a.front (a.key ++ (a.value ++ a.others)) (b.key ++ tail)
           ∙ ap (λ (z : List ℕ). a.front ++ z) (append_assoc a.key (a.value ++ a.others) (b.key ++ tail)));
       left_is = q.left_is b.front (b.key ++ tail) (omega (arith, shallow))
-          (subst (λ (n : ℕ). AreItems false d (2 * n) b.front) long before.items) all;
+          (subst (λ (n : ℕ). AreItems Any d (2 * n) b.front) long before.items) all;
     })
 
 -- A map whose pairs are not put in order has a key twice, or the memory is too small.

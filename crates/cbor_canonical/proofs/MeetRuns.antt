@@ -1,7 +1,8 @@
 -- Where the fault of an item stands, through the nests around it.
-use Rattle.std.proofs.Common.{◌≡◌, ℕ, suc, ◌+◌, ◌*◌, ◌%◌, ◌≤◌, ◌<◌, false, List, [], ◌∷◌, ◌++◌, length, Option}
+use Rattle.std.proofs.Common.{◌≡◌, ℕ, suc, ◌+◌, ◌*◌, ◌%◌, ◌≤◌, ◌<◌, List, [], ◌∷◌, ◌++◌, length, Option}
 use Rattle.std.proofs.Common.{Some, None, refl, sym, ◌∙◌, ap, arith, append_assoc}
 use Rattle.cbor_canonical.specs.Meeting.{MeetsPart, IsSameKey}
+use Rattle.ciborium_ll_grammar.specs.declared.spelling.Spelling.TheVariants.{Any}
 use Rattle.ciborium_ll_grammar.specs.declared.hdr.Header.{Header}
 use Rattle.ciborium_ll_grammar.specs.declared.hdr.Header.TheVariants as h
 use Rattle.ciborium_ll_grammar.specs.Title.{IsTitle, numbered, alone, Unsigned, Negative, ByteString, TextString}
@@ -45,7 +46,7 @@ module _ (P : ℕ → List ℕ → Type 0) where
 
   -- Items that were read stand before what is met.
   pub meets_more : (d n : ℕ) (header : Header) (bytes items rest : List ℕ) → bytes ≡ items ++ rest
-      → TakesMore header n → AreItems false d n items → MeetsAt P d rest → MeetsIn P d header bytes
+      → TakesMore header n → AreItems Any d n items → MeetsAt P d rest → MeetsIn P d header bytes
   meets_more d n header bytes items rest w t a m =
       record { count = n; items = items; more = rest; takes = t; are = a; meets = m; whole = w }
 
@@ -55,19 +56,19 @@ module _ (P : ℕ → List ℕ → Type 0) where
       record { count = 0; items = []; more = bytes; few = omega arith; are = none_any; meets = m; whole = refl }
 
   -- What stands in the value of a pair.
-  pub part_value : (d : ℕ) (bytes key rest : List ℕ) → bytes ≡ key ++ rest → IsItem false d key → MeetsAt P d rest
+  pub part_value : (d : ℕ) (bytes key rest : List ℕ) → bytes ≡ key ++ rest → IsItem Any d key → MeetsAt P d rest
       → MeetsPart P d bytes
   part_value d bytes key rest w i m =
       record { count = 1; items = key; more = rest; few = omega arith; are = i; meets = m; whole = w }
 
   -- What stands in a pair, after other pairs of a map.
   pub part_map : (d m : ℕ) (o : Option ℕ) (bytes read rest : List ℕ) → bytes ≡ read ++ rest
-      → AreItems false d (2 * m) read → ((k : ℕ) → k < 2 → TakesMore (h.Map o) (2 * m + k)) → MeetsPart P d rest
+      → AreItems Any d (2 * m) read → ((k : ℕ) → k < 2 → TakesMore (h.Map o) (2 * m + k)) → MeetsPart P d rest
       → MeetsIn P d (h.Map o) bytes
   part_map d m o bytes read rest w a f p =
       meets_more d (2 * m + p.count) (h.Map o) bytes (read ++ p.items) p.more
       (w ∙ ap (λ (z : List ℕ). read ++ z) p.whole ∙ sym (append_assoc read p.items p.more)) (f p.count p.few)
-      (items_joined false d (2 * m) p.count read p.items a p.are) p.meets
+      (items_joined Any d (2 * m) p.count read p.items a p.are) p.meets
 
   -- What stands in a tag's item.
   pub meets_tag : (d n : ℕ) (bytes : List ℕ) → MeetsAt P d bytes → MeetsIn P d (h.Tag n) bytes
@@ -122,7 +123,7 @@ fault_nest d header st.Malformed title bytes t m = tt
 fault_nest d header st.Room title bytes t m = tt
 
 pub fault_more : (d n : ℕ) (header : Header) (stop : Stop) (bytes items rest : List ℕ) → bytes ≡ items ++ rest
-    → TakesMore header n → AreItems false d n items → MeetsFault d stop rest → MeetsWithin d header stop bytes
+    → TakesMore header n → AreItems Any d n items → MeetsFault d stop rest → MeetsWithin d header stop bytes
 fault_more d n header (st.NoSimple left) bytes items rest w t a m =
     meets_more (IsNoValue left) d n header bytes items rest w t a m
 fault_more d n header (st.Duplicate left) bytes items rest w t a m = λ l.
@@ -143,7 +144,7 @@ fault_key d (st.Duplicate left) bytes m = λ l. part_key (IsSameKey left) d byte
 fault_key d st.Malformed bytes m = tt
 fault_key d st.Room bytes m = tt
 
-pub fault_value : (d : ℕ) (stop : Stop) (bytes key rest : List ℕ) → bytes ≡ key ++ rest → IsItem false d key
+pub fault_value : (d : ℕ) (stop : Stop) (bytes key rest : List ℕ) → bytes ≡ key ++ rest → IsItem Any d key
     → MeetsFault d stop rest → MeetsInPair d stop bytes
 fault_value d (st.NoSimple left) bytes key rest w i m = part_value (IsNoValue left) d bytes key rest w i m
 fault_value d (st.Duplicate left) bytes key rest w i m = λ l.
@@ -163,7 +164,8 @@ takes_part (Some n) m k f l = omega (arith, f n refl, l)
 
 -- The fault of a pair is one of its map.
 pub fault_pairs : (d m : ℕ) (o : Option ℕ) (stop : Stop) (bytes read rest : List ℕ) → bytes ≡ read ++ rest
-    → AreItems false d (2 * m) read → ((n : ℕ) → o ≡ Some n → m < n) → MeetsInPair d stop rest → MeetsWithin d (h.Map o) stop bytes
+    → AreItems Any d (2 * m) read → ((n : ℕ) → o ≡ Some n → m < n) → MeetsInPair d stop rest
+    → MeetsWithin d (h.Map o) stop bytes
 fault_pairs d m o (st.NoSimple left) bytes read rest w a f p =
     part_map (IsNoValue left) d m o bytes read rest w a (λ k. takes_part o m k f) p
 fault_pairs d m o (st.Duplicate left) bytes read rest w a f p = λ l.

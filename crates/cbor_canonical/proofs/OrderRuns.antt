@@ -1,7 +1,7 @@
 -- Pairs that are put in the order of their keys.
 use Rattle.std.proofs.Common.{◌≡◌, ℕ, ◌+◌, ◌≤◌, List, ◌++◌, length, take, drop, sym, ◌∙◌, ap}
 use Rattle.std.proofs.Common.{subst, arith, append_assoc, length-append, take-append-drop, take_at}
-use Rattle.std.proofs.Common.{suc, ◌*◌, ◌-◌, ◌<◌, ◌⊎◌, inl, inr, false, slice_index_or}
+use Rattle.std.proofs.Common.{suc, ◌*◌, ◌-◌, ◌<◌, ◌⊎◌, inl, inr, slice_index_or}
 use Rattle.std.proofs.lemmas.List.{length-take-le}
 use Rattle.std.specs.List.{AllByRecursion, sum_by}
 use Rattle.std.specs.List.Sorted.{IsPermutation}
@@ -20,6 +20,7 @@ use Rattle.cbor_canonical.proofs.IndexRuns.{places_long, two_of}
 use Rattle.cbor_canonical.specs.Places.{HaveKeys, key_at, later_start, nowhere, starts_before}
 use Rattle.cbor_deterministic.specs.Orders.{Precedes}
 use Rattle.cbor_deterministic.specs.declared.TheConstants.{MAX_DEPTH}
+use Rattle.ciborium_ll_grammar.specs.declared.spelling.Spelling.TheVariants.{Any}
 use Rattle.ciborium_ll_grammar.specs.Items.{AreItems}
 
 module _ (at end : ℕ) (out : List ℕ) (ss : List Span) (es : List Entry) (l : at ≤ end)
@@ -61,7 +62,7 @@ module _ (at end : ℕ) (out : List ℕ) (ss : List Span) (es : List Entry) (l :
   pub repeated : {ord : Order} (d left : ℕ) (bytes : List ℕ) (ts : List Span) (k : ℕ) → HaveKeys es
       → IsPermutation ss ts → AreSorted ord (entries_at out ts) → HasDisorder ord k (entries_at out ts)
       → ((front rest : List ℕ) → d ≤ MAX_DEPTH
-      → AreItems false d (2 * sum_by (starts_before (later_start k ts)) ts) front → bytes ≡ front ++ rest
+      → AreItems Any d (2 * sum_by (starts_before (later_start k ts)) ts) front → bytes ≡ front ++ rest
       → left ≡ length rest)
       → StopsOrder d bytes es (st.Duplicate left)
   repeated {ord = o} d left bytes ts k h perm sorted down told =
@@ -91,7 +92,7 @@ module _ (at end : ℕ) (out : List ℕ) (ss : List Span) (es : List Entry) (l :
             (slice_index_or ts (suc (k - 1)) nowhere) two.either (same x)
             ∙ sym (ap (λ (z : Entry). z.key) (entry_there two.other two.late x two.within two.late_is));
         left_is = λ front rest shallow are whole. told front rest shallow
-            (subst (λ (n : ℕ). AreItems false d (2 * n) front) (sym count) are) whole;
+            (subst (λ (n : ℕ). AreItems Any d (2 * n) front) (sym count) are) whole;
       }
     where
       neighbours : (o : Order) (ts : List Span) (k : ℕ) (x : Entry) → HasDisorder o k (entries_at out ts)

@@ -1,5 +1,6 @@
 -- Items of any spelling, and the deterministic encoding of their values.
-use Rattle.std.specs.Prelude.{◌≡◌, ℕ, false, List, ◌++◌}
+use Rattle.std.specs.Prelude.{◌≡◌, ℕ, List, ◌++◌}
+use Rattle.ciborium_ll_grammar.specs.declared.spelling.Spelling.TheVariants.{Any}
 use Rattle.ciborium_ll_grammar.specs.Items.{IsItem}
 use Rattle.cbor_deterministic.specs.declared.Order.{Order}
 use Rattle.cbor_deterministic.specs.Deterministic.{IsDeterministic}
@@ -11,7 +12,7 @@ use Rattle.cbor_deterministic.specs.Spellings.{Encodes}
 -- bytes are the deterministic encoding of the same value, in this order of keys and to the same depth (RFC 8949, 4.2).
 -- To a depth of 1 `9f 18 01 ff` is rewritten to `81 01`.
 pub record IsRewritten (order : Order) (depth : ℕ) (item written : List ℕ) : Type 0 where
-  pub is_item : IsItem false depth item
+  pub is_item : IsItem Any depth item
   pub value : Value
   pub same : Value
   pub spelled : Encodes value item

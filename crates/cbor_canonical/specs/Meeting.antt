@@ -1,6 +1,7 @@
 -- Where the fault of an item stands within it.
 use Rattle.std.specs.Prelude.{Option, ◌+◌, ◌*◌, suc}
-use Rattle.std.specs.Prelude.{◌≡◌, ℕ, ◌<◌, ◌≤◌, false, Bool, List, ◌∷◌, ◌++◌, length}
+use Rattle.std.specs.Prelude.{◌≡◌, ℕ, ◌<◌, ◌≤◌, Bool, List, ◌∷◌, ◌++◌, length}
+use Rattle.ciborium_ll_grammar.specs.declared.spelling.Spelling.TheVariants.{Any}
 use Rattle.ciborium_ll_grammar.specs.declared.hdr.Header.TheVariants as h
 use Rattle.ciborium_ll_grammar.specs.Items.{IsItem}
 use Rattle.ciborium_ll_grammar.specs.Title.{IsTitle}
@@ -19,7 +20,7 @@ pub record MeetsAt (P : ℕ → List ℕ → Type 0) (depth : ℕ) (bytes : List
   pub before : List ℕ
   pub tail : List ℕ
   pub levels : ℕ
-  pub due : (outer : Bool) → (closable : Bool) × ItemDue false outer depth before levels closable
+  pub due : (outer : Bool) → (closable : Bool) × ItemDue Any outer depth before levels closable
   pub is : P levels tail
   pub whole : bytes ≡ before ++ tail
 
@@ -29,7 +30,7 @@ pub record MeetsIn (P : ℕ → List ℕ → Type 0) (depth : ℕ) (header : Hea
   pub items : List ℕ
   pub more : List ℕ
   pub takes : TakesMore header count
-  pub are : AreItems false depth count items
+  pub are : AreItems Any depth count items
   pub meets : MeetsAt P depth more
   pub whole : bytes ≡ items ++ more
 
@@ -39,7 +40,7 @@ pub record MeetsPart (P : ℕ → List ℕ → Type 0) (depth : ℕ) (bytes : Li
   pub items : List ℕ
   pub more : List ℕ
   pub few : count < 2
-  pub are : AreItems false depth count items
+  pub are : AreItems Any depth count items
   pub meets : MeetsAt P depth more
   pub whole : bytes ≡ items ++ more
 
@@ -63,14 +64,14 @@ pub record IsSameKey (left levels : ℕ) (bytes : List ℕ) : Type 0 where
   pub is_title : IsTitle title (h.Map count)
   pub pairs : ℕ
   pub front : List ℕ
-  pub before : AreItems false inner (2 * pairs) front
+  pub before : AreItems Any inner (2 * pairs) front
   pub key : List ℕ
-  pub is_key : IsItem false inner key
+  pub is_key : IsItem Any inner key
   pub more : ℕ
   pub between : List ℕ
-  pub after : AreItems false inner (2 * more + 1) between
+  pub after : AreItems Any inner (2 * more + 1) between
   pub again : List ℕ
-  pub is_again : IsItem false inner again
+  pub is_again : IsItem Any inner again
   pub value : Value
   pub other : Value
   pub key_encodes : Encodes value key

@@ -1,10 +1,11 @@
 -- The places of pairs in the output.
 use Rattle.std.specs.Prelude.{◌≡◌, ℕ, ◌+◌, ◌-◌, ◌*◌, ◌<◌, ◌≤◌, List, [], ◌∷◌, ◌++◌, length, take, drop, map}
-use Rattle.std.specs.Prelude.{Option, Result, MatchResult, slice_index_or, false, cond, max, nat_lt}
+use Rattle.std.specs.Prelude.{Option, Result, MatchResult, slice_index_or, cond, max, nat_lt}
 use Rattle.std.specs.List.{AllByRecursion}
 use Rattle.std.specs.List.Sorted.{IsPermutation}
 use Rattle.cbor_deterministic.specs.declared.Order.{Order}
 use Rattle.cbor_deterministic.specs.declared.TheConstants.{MAX_DEPTH}
+use Rattle.ciborium_ll_grammar.specs.declared.spelling.Spelling.TheVariants.{Any}
 use Rattle.ciborium_ll_grammar.specs.Items.{AreItems}
 use Rattle.cbor_canonical.specs.declared.pairs.Span.{Span}
 use Rattle.cbor_canonical.specs.declared.Stop.{Stop}
@@ -153,7 +154,7 @@ pub record IsRepeated (depth : ℕ) (bytes : List ℕ) (entries : List Entry) (l
   pub apart : early < late
   pub within : late < length entries
   pub keys : (other : Entry) → (slice_index_or entries early other).key ≡ (slice_index_or entries late other).key
-  pub left_is : (front rest : List ℕ) → depth ≤ MAX_DEPTH → AreItems false depth (2 * late) front
+  pub left_is : (front rest : List ℕ) → depth ≤ MAX_DEPTH → AreItems Any depth (2 * late) front
       → bytes ≡ front ++ rest → left ≡ length rest
 
 -- Why pairs are not put in order: two have the same key, or the memory is too small. For `01 02 01 03` it is

@@ -1,6 +1,7 @@
 -- Why an item of any spelling is not rewritten, and where.
 use Rattle.std.specs.Prelude.{Option, suc, ◌+◌, ◌*◌}
 use Rattle.std.specs.Prelude.{◌≡◌, ℕ, ◌<◌, ◌≤◌, Bool, false, List, ◌∷◌, ◌++◌, length, Result, Ok, Err}
+use Rattle.ciborium_ll_grammar.specs.declared.spelling.Spelling.TheVariants.{Any}
 use Rattle.ciborium_ll_grammar.specs.declared.hdr.Header.TheVariants as h
 use Rattle.ciborium_ll_grammar.specs.Items.{AreItems, IsItem}
 use Rattle.ciborium_ll_grammar.specs.Title.{IsTitle}
@@ -29,7 +30,7 @@ pub record HasNoSimple (depth : ℕ) (bytes : List ℕ) (place : ℕ) : Type 0 w
   pub rest : List ℕ
   pub levels : ℕ
   pub closable : Bool
-  pub item_due : ItemDue false false depth before levels closable
+  pub item_due : ItemDue Any false depth before levels closable
   pub least : 24 ≤ number
   pub most : number < 32
   pub is : bytes ≡ before ++ 0xf8 ∷ number ∷ rest
@@ -43,20 +44,20 @@ pub record HasSameKey (depth : ℕ) (bytes : List ℕ) (place : ℕ) : Type 0 wh
   pub count : Option ℕ
   pub levels : ℕ
   pub closable : Bool
-  pub item_due : ItemDue false false depth before (suc levels) closable
+  pub item_due : ItemDue Any false depth before (suc levels) closable
   pub is_title : IsTitle title (h.Map count)
   -- Pairs that come before the first of the two keys.
   pub pairs : ℕ
   pub front : List ℕ
-  pub front_items : AreItems false levels (2 * pairs) front
+  pub front_items : AreItems Any levels (2 * pairs) front
   pub key : List ℕ
-  pub is_key : IsItem false levels key
+  pub is_key : IsItem Any levels key
   -- The value of the first key, and pairs that come before the second one.
   pub more : ℕ
   pub between : List ℕ
-  pub between_items : AreItems false levels (2 * more + 1) between
+  pub between_items : AreItems Any levels (2 * more + 1) between
   pub again : List ℕ
-  pub is_again : IsItem false levels again
+  pub is_again : IsItem Any levels again
   pub value : Value
   pub other : Value
   pub key_encodes : Encodes value key
@@ -72,20 +73,20 @@ pub record HasSameKey (depth : ℕ) (bytes : List ℕ) (place : ℕ) : Type 0 wh
 -- is `Cut` at 2, `f8 18` is `NoSimple` at 0, and `a2 01 02 01 03` is `DuplicateKey`.
 abbrev pub HasRefusal : ℕ → List ℕ → Why → ℕ → Type 0
 HasRefusal depth bytes w.Cut place =
-    (fault : HasItemFault false depth bytes) × (fault.answer ≡ Short) × (place ≡ length bytes)
-HasRefusal depth bytes w.Malformed place = (fault : HasItemFault false depth bytes) × (fault.answer ≡ Syntax place)
-HasRefusal depth bytes w.Break place = (fault : HasEarlyBreak false depth bytes) × (place ≡ length fault.before)
-HasRefusal depth bytes w.Deep place = (fault : HasDeepNest false depth bytes) × (place ≡ length fault.before)
+    (fault : HasItemFault Any depth bytes) × (fault.answer ≡ Short) × (place ≡ length bytes)
+HasRefusal depth bytes w.Malformed place = (fault : HasItemFault Any depth bytes) × (fault.answer ≡ Syntax place)
+HasRefusal depth bytes w.Break place = (fault : HasEarlyBreak Any depth bytes) × (place ≡ length fault.before)
+HasRefusal depth bytes w.Deep place = (fault : HasDeepNest Any depth bytes) × (place ≡ length fault.before)
 HasRefusal depth bytes w.NoSimple place =
-    BeginsWithItem false depth bytes × NoneInFront IsSpelling bytes × HasNoSimple depth bytes place
+    BeginsWithItem Any depth bytes × NoneInFront IsSpelling bytes × HasNoSimple depth bytes place
 HasRefusal depth bytes w.DuplicateKey place =
-    BeginsWithItem false depth bytes × NoneInFront IsFittingSpelling bytes × HasSameKey depth bytes place
+    BeginsWithItem Any depth bytes × NoneInFront IsFittingSpelling bytes × HasSameKey depth bytes place
 
 -- Why nothing is written: the bytes are refused. Or an item begins them, and no memory is left. For `1c` it is
 -- `Malformed` at 0, and for `01` it can be `Memory` alone.
 abbrev pub IsUnwritten : ℕ → List ℕ → CanonicalError → Type 0
 IsUnwritten depth bytes (Refused refusal) = HasRefusal depth bytes refusal.why refusal.place
-IsUnwritten depth bytes Memory = BeginsWithItem false depth bytes
+IsUnwritten depth bytes Memory = BeginsWithItem Any depth bytes
 
 -- The error refuses for this reason at this place. `Cut` at 2 does so for `Cut` and 2, and `Memory` for no reason.
 abbrev pub HasWhy : Why → ℕ → CanonicalError → Type 0

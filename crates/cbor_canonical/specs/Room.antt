@@ -1,5 +1,6 @@
 -- How much memory the encoding of an item takes.
-use Rattle.std.specs.Prelude.{◌≡◌, ℕ, ◌+◌, ◌*◌, ◌/◌, ◌<◌, ◌≤◌, ◌⊎◌, List, length, Option, Some, None, false}
+use Rattle.std.specs.Prelude.{◌≡◌, ℕ, ◌+◌, ◌*◌, ◌/◌, ◌<◌, ◌≤◌, ◌⊎◌, List, length, Option, Some, None}
+use Rattle.ciborium_ll_grammar.specs.declared.spelling.Spelling.TheVariants.{Any}
 use Rattle.cbor_skip.specs.ItemFaults.{BeginsWithItem}
 use Rattle.cbor_deterministic.specs.declared.Order.{Order}
 use Rattle.cbor_deterministic.specs.Deterministic.{HasDeterministic}
@@ -26,7 +27,7 @@ IsTooSmall len room places = (room < room_of len) ⊎ (places < places_of len)
 -- in the encoding already, the output is shorter than the item. The item of `82 01 02 05` has 3 bytes, so 2 bytes of
 -- output are too few, and 3 are enough with no place.
 pub record LacksMemory (order : Order) (depth : ℕ) (bytes : List ℕ) (room places : ℕ) : Type 0 where
-  pub front : BeginsWithItem false depth bytes
+  pub front : BeginsWithItem Any depth bytes
   pub small : IsTooSmall (length front.item) room places
   pub kept : (len : ℕ) → HasDeterministic order depth bytes len → room < len
 

@@ -1,7 +1,8 @@
 -- The bytes that a call reads when it rewrites, and those that it writes.
-use Rattle.std.specs.Prelude.{◌≡◌, ℕ, zero, suc, ◌+◌, ◌<◌, false, List, [], ◌∷◌, ◌++◌, length, Option, Some, None}
+use Rattle.std.specs.Prelude.{◌≡◌, ℕ, zero, suc, ◌+◌, ◌<◌, List, [], ◌∷◌, ◌++◌, length, Option, Some, None}
 use Rattle.std.specs.Prelude.{slice_index_or}
 use Rattle.std.specs.List.{AllAdjacentBelow}
+use Rattle.ciborium_ll_grammar.specs.declared.spelling.Spelling.TheVariants.{Any}
 use Rattle.ciborium_ll_grammar.specs.declared.hdr.Header.{Header}
 use Rattle.ciborium_ll_grammar.specs.Items.{IsItem}
 use Rattle.ciborium_ll_grammar.specs.Title.{IsTitle}
@@ -118,7 +119,7 @@ pub record HasEqualKeys (entries : List Entry) : Type 0 where
 -- depth, and for `NoSimple` a spelling of a value. For `Duplicate` they are a spelling of a value in which no map has a
 -- key twice. For `Room` there are none. `a2 01 02 01 03` are such bytes for `NoSimple`, but not for `Duplicate`.
 abbrev pub IsMissed : ℕ → Stop → List ℕ → Type 0
-IsMissed depth stop.Malformed bytes = IsItem false depth bytes
+IsMissed depth stop.Malformed bytes = IsItem Any depth bytes
 IsMissed depth (stop.NoSimple left) bytes = IsSpelling bytes
 IsMissed depth (stop.Duplicate left) bytes = IsFittingSpelling bytes
 IsMissed depth stop.Room bytes = ⊥

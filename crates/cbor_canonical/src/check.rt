@@ -1,6 +1,7 @@
 //! The check that an item begins some bytes, before it is rewritten.
 
 ghost use Rattle.std.specs.Prelude.{◌≡◌, ◌++◌, ◌≤◌, MatchResult, false, length};
+ghost use Rattle.ciborium_ll_grammar.specs.declared.spelling.Spelling.TheVariants.{Any};
 ghost use Rattle.ciborium_ll_grammar.specs.Items.{IsItem};
 ghost use Rattle.cbor_skip.specs.ItemFaults.{BeginsWithItem};
 ghost use Rattle.cbor_canonical.specs.Refusals.{HasRefusal, IsRefusalOf};
@@ -18,7 +19,7 @@ const BUFFER_SIZE: usize = 256;
 pub(crate) fn split_item(bytes: &[u8], depth: usize) -> Result<(&[u8], &[u8]), Refusal>
     requires shallow { depth ≤ MAX_DEPTH }
     ensures { MatchResult result
-        (λ found. IsItem false depth found.0.now × (bytes.now ≡ found.0.now ++ found.1.now))
+        (λ found. IsItem Any depth found.0.now × (bytes.now ≡ found.0.now ++ found.1.now))
         (λ refusal. HasRefusal depth bytes.now refusal.why refusal.place) }
 {
     let len = check_item(bytes, depth)?;
@@ -28,7 +29,7 @@ pub(crate) fn split_item(bytes: &[u8], depth: usize) -> Result<(&[u8], &[u8]), R
 /// Checks that an item to the depth begins the bytes, and returns its length.
 fn check_item(bytes: &[u8], depth: usize) -> Result<usize, Refusal>
     requires shallow { depth ≤ MAX_DEPTH }
-    ensures { MatchResult result (λ len. (front : BeginsWithItem false depth bytes.now) × (len ≡ length front.item))
+    ensures { MatchResult result (λ len. (front : BeginsWithItem Any depth bytes.now) × (len ≡ length front.item))
         (λ refusal. HasRefusal depth bytes.now refusal.why refusal.place) }
 {
     let mut buffer = [0; BUFFER_SIZE];

@@ -1,6 +1,7 @@
 //! Laws of the rewriting, each the contract of an empty function, for both orders of keys.
 
 ghost use Rattle.std.specs.Prelude.{◌≡◌, ◌++◌, ℕ, List, false};
+ghost use Rattle.ciborium_ll_grammar.specs.declared.spelling.Spelling.TheVariants.{Any};
 ghost use Rattle.ciborium_ll_grammar.specs.Items.{IsItem};
 ghost use Rattle.cbor_deterministic.specs.declared.Order.{Order as AnyOrder};
 ghost use Rattle.cbor_deterministic.specs.Deterministic.{IsDeterministic};
@@ -28,5 +29,5 @@ pub fn written_again()
 #[tactic(auto, using(crate::proofs::CanonicalLaws::refused_has_none))]
 pub fn refused_has_none()
     ensures { (depth place : ℕ) (bytes item rest : List ℕ) (why : AnyWhy) → HasRefusal depth bytes why place
-        → IsItem false depth item → IsFittingSpelling item → bytes ≡ item ++ rest → ⊥ }
+        → IsItem Any depth item → IsFittingSpelling item → bytes ≡ item ++ rest → ⊥ }
 {}

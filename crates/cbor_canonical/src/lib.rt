@@ -6,6 +6,7 @@
 #![tactic(auto)]
 
 ghost use Rattle.std.specs.Prelude.{◌≡◌, ◌≤◌, ◌-◌, IfOk, MatchResult, false, length, take};
+ghost use Rattle.ciborium_ll_grammar.specs.declared.spelling.Spelling.TheVariants.{Any};
 ghost use Rattle.ciborium_ll_grammar.specs.Items.{IsItem};
 ghost use Rattle.cbor_canonical.specs.declared.CanonicalError.TheVariants.{Memory as NoMemory};
 ghost use Rattle.cbor_canonical.specs.Canonical.{IsCanonical, IsRewritten};
@@ -170,7 +171,7 @@ fn rewrite_checked(
     spans: &mut [Span],
 ) -> Result<usize, CanonicalError>
     requires shallow { depth ≤ MAX_DEPTH }
-    requires is_item { IsItem false depth item.now }
+    requires is_item { IsItem Any depth item.now }
     ensures written { MatchResult result (λ end. IsRewritten order depth item.now (take end out.new))
         (IsUnwritten depth item.now) }
     ensures within { IfOk result (λ end. end ≤ length out.new) }

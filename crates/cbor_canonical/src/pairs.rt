@@ -12,6 +12,7 @@ ghost use Rattle.cbor_canonical.specs.Places.{ArePlaced, IsWithin, MovesPairs, P
 ghost use Rattle.cbor_canonical.specs.Places.{later_start, nowhere, starts_before};
 ghost use Rattle.cbor_canonical.specs.Writing.{Adds};
 ghost use Rattle.cbor_deterministic.specs.declared.TheConstants.{MAX_DEPTH};
+ghost use Rattle.ciborium_ll_grammar.specs.declared.spelling.Spelling.TheVariants.{Any};
 ghost use Rattle.ciborium_ll_grammar.specs.Items.{AreItems};
 
 use crate::Stop;
@@ -219,7 +220,7 @@ fn count_before(spans: &[Span], offset: usize) -> usize
 /// Returns how many bytes are left from the later of two keys on, which are neighbours in the order of keys.
 fn later_left(bytes: &[u8], depth: usize, spans: &[Span], index: usize) -> usize
     ensures { (front rest : List ℕ) → depth ≤ MAX_DEPTH
-        → AreItems false depth (2 * sum_by (starts_before (later_start index spans.now)) spans.now) front
+        → AreItems Any depth (2 * sum_by (starts_before (later_start index spans.now)) spans.now) front
         → bytes.now ≡ front ++ rest → result ≡ length rest }
 {
     let later = start_of(spans, index.saturating_sub(1)).max(start_of(spans, index));

@@ -1,6 +1,7 @@
 //! A walk over the pairs of a map, to the place of a key.
 
 ghost use Rattle.std.specs.Prelude.{◌≡◌, ◌*◌, ◌≤◌, ◌++◌, List, ℕ, false, length, MatchOption};
+ghost use Rattle.ciborium_ll_grammar.specs.declared.spelling.Spelling.TheVariants.{Any};
 ghost use Rattle.ciborium_ll_grammar.specs.Items.{AreItems, IsItem};
 ghost use Rattle.cbor_deterministic.specs.Fronts.{InFront};
 ghost use Rattle.cbor_deterministic.specs.declared.TheConstants.{MAX_DEPTH};
@@ -17,8 +18,8 @@ const BUFFER_SIZE: usize = 256;
 /// Returns the bytes after the item at the beginning, if there is one to the depth.
 fn after_item(bytes: &[u8], depth: usize) -> Option<&[u8]>
     requires shallow { depth ≤ MAX_DEPTH }
-    ensures { MatchOption result (BeginsWithItem false depth bytes.now → ⊥)
-        (λ rest. InFront (IsItem false depth) bytes.now rest.now) }
+    ensures { MatchOption result (BeginsWithItem Any depth bytes.now → ⊥)
+        (λ rest. InFront (IsItem Any depth) bytes.now rest.now) }
 {
     let mut buffer = [0; BUFFER_SIZE];
     let mut decoder = Decoder::from(SliceReader::new(bytes));
@@ -32,7 +33,7 @@ fn after_item(bytes: &[u8], depth: usize) -> Option<&[u8]>
 
 /// Returns how many bytes are left after this many pairs of items.
 pub(crate) fn left_after(bytes: &[u8], depth: usize, pairs: usize) -> usize
-    ensures { (front rest : List ℕ) → depth ≤ MAX_DEPTH → AreItems false depth (2 * pairs) front
+    ensures { (front rest : List ℕ) → depth ≤ MAX_DEPTH → AreItems Any depth (2 * pairs) front
         → bytes.now ≡ front ++ rest → result ≡ length rest }
 {
     let levels = depth.min(MAX_DEPTH);

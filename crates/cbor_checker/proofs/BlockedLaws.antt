@@ -47,7 +47,7 @@ value_entered byte v t x kind spot q e more i value =
 
 module _ (spot : Spot) (kind : TitleKind) (byte : ℕ) (bytes : List ℕ) (front : spot.front ≡ byte ∷ bytes)
     (is_cut : length bytes < affix_len (byte % 32)) (is_kind : IsTitleKind kind (byte / 32) (byte % 32))
-    (some : SomeTaken spot.strict spot.front) where
+    (some : SomeTaken spot.allowed spot.front) where
   title_of : (behind : List ℕ) (x : Header) → IsTitle (spot.front ++ behind) x
       → (o : Numbered byte x) × kind ≡ kind_of o.major
   title_of behind x q =
@@ -72,7 +72,7 @@ module _ (spot : Spot) (kind : TitleKind) (byte : ℕ) (bytes : List ℕ) (front
 -- ---- the spot after a byte of a title, as the code finds it
 
 module _ (spot new : Spot) (row : Row) (some : 0 < length spot.front) (says : IsRow (slice_index spot.front 0) row)
-    (goes : SomeTaken spot.strict spot.front) where
+    (goes : SomeTaken spot.allowed spot.front) where
   abbrev Short : Type 0
   Short = length spot.front ≤ affix_len (slice_index spot.front 0 % 32)
 
@@ -86,9 +86,9 @@ module _ (spot new : Spot) (row : Row) (some : 0 < length spot.front) (says : Is
       (omega (arith, short, some, length-drop 1 spot.front)) says.kind goes b)
 
 pub step_whole : (spot new : Spot) (header : Header) → IsTitle spot.front header
-    → IsTakenTitle spot.strict spot.front header → new ≡ titled header spot → TitleStep spot new
+    → IsTakenTitle spot.allowed spot.front header → new ≡ titled header spot → TitleStep spot new
 step_whole spot new header q g e = rw e (whole header q g)
 
-pub step_none : (spot new : Spot) → NoneTaken spot.strict spot.front → new ≡ refused (record spot { front = [] })
+pub step_none : (spot new : Spot) → NoneTaken spot.allowed spot.front → new ≡ refused (record spot { front = [] })
     → TitleStep spot new
 step_none spot new never e = rw e (none never)

@@ -1,4 +1,5 @@
 -- The answer of a checker if no more bytes come.
+use Rattle.ciborium_ll_grammar.specs.declared.spelling.Spelling.{Spelling}
 use Rattle.std.proofs.Common.{◌≡◌, ◌∙◌, ℕ, Bool, true, false, List, refl, sym, ap, cond, ◌==◌}
 use Rattle.std.proofs.lemmas.Bool.{eqb-true, eqb-false}
 use Rattle.cbor_checker.specs.declared.checker.Checker.{Checker}
@@ -64,14 +65,14 @@ fault_answers checker fault is =
 
 -- ---- the same bytes, the same end
 
-pub one_end : (s : Bool) (d : ℕ) (read : List ℕ) (one other : Checker) (first second : End) → HasRead s d read one
+pub one_end : (s : Spelling) (d : ℕ) (read : List ℕ) (one other : Checker) (first second : End) → HasRead s d read one
     → HasRead s d read other → AnswersEnd one first → AnswersEnd other second → first ≡ second
 unfolding HasRead AnswersEnd
 one_end s d read one other first second is so says tells =
     let same = one_spot s d read (spot_of one) (spot_of other) is so in says ∙ (ap end_of same ∙ sym tells)
 
 -- Checkers that have read the same bytes have the same end.
-pub same_end : (s : Bool) (d : ℕ) (read : List ℕ) (one other : Checker) (end : End) → HasRead s d read one
+pub same_end : (s : Spelling) (d : ℕ) (read : List ℕ) (one other : Checker) (end : End) → HasRead s d read one
     → HasRead s d read other → AnswersEnd one end → AnswersEnd other end
 unfolding HasRead AnswersEnd
 same_end s d read one other end is so says =

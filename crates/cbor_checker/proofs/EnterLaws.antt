@@ -33,16 +33,16 @@ module _ (spot : Spot) (clear : spot.front ≡ []) (plain : spot.within ≡ w.No
   -- ---- after a title, an item is completed
 
   abbrev Behind : List ℕ → Type 0
-  Behind = Ends spot.strict spot.depth spot.levels
+  Behind = Ends spot.allowed spot.depth spot.levels
 
   nest_on : (d : ℕ) (level : Level) (n : ℕ) (items end rest y : List ℕ) → suc d ≡ spot.depth
-      → AreItems spot.strict d n items → Takes level n end → Behind rest → y ≡ items ++ (end ++ rest)
+      → AreItems spot.allowed d n items → Takes level n end → Behind rest → y ≡ items ++ (end ++ rest)
       → Waits (nested spot.depth level spot) y
   nest_on d level n items end rest y same i t k e =
-      let behind : Ends spot.strict (suc d) spot.levels rest = rw same k in
+      let behind : Ends spot.allowed (suc d) spot.levels rest = rw same k in
       subst (λ (n : ℕ). Waits (nested n level spot) y) same ((settles (level ∷ spot.levels) d spot y clear).0 (search))
 
-  completes_on : (d : ℕ) (x : Header) (r rest y : List ℕ) → Completes spot.strict d x r → d ≡ spot.depth → Behind rest
+  completes_on : (d : ℕ) (x : Header) (r rest y : List ℕ) → Completes spot.allowed d x r → d ≡ spot.depth → Behind rest
       → y ≡ r ++ rest → Waits (item_entered x spot) y
   completes_on d x r rest y (byte_string {len = n} long) same k e = (bytes_body n spot y clear).0 (rw plain (search))
   completes_on d x r rest y (text_string {len = n} long sound) same k e =
@@ -62,7 +62,7 @@ module _ (spot : Spot) (clear : spot.front ≡ []) (plain : spot.within ≡ w.No
   completes_on d x r rest y c same k e = rw e ((settles spot.levels spot.depth spot rest clear).0 k)
 
   -- If an item begins with the title `t`, the spot after the title waits for the bytes `y` after `t`.
-  item_on : (t y item rest : List ℕ) (x : Header) → IsTitle t x → IsItem spot.strict spot.depth item → Behind rest
+  item_on : (t y item rest : List ℕ) (x : Header) → IsTitle t x → IsItem spot.allowed spot.depth item → Behind rest
       → t ++ y ≡ item ++ rest → Waits (item_entered x spot) y
   item_on t y item rest x p (more_items {title = t'} {rest = r} {header = x'} p' g c no_items) k e =
       let o = one_title t t' y (r ++ rest) x x' p p' (simp (e, append_assoc, append-nil)) in
@@ -70,7 +70,7 @@ module _ (spot : Spot) (clear : spot.front ≡ []) (plain : spot.within ≡ w.No
 
   -- If a break begins with the title `t`, the spot after the title waits for the bytes `y` after `t`.
   breaks_on : (levels : List Level) (t y : List ℕ) (x : Header) → IsTitle t x
-      → Breaks spot.strict spot.depth levels (t ++ y) → levels ≡ spot.levels → Waits (item_entered x spot) y
+      → Breaks spot.allowed spot.depth levels (t ++ y) → levels ≡ spot.levels → Waits (item_entered x spot) y
   breaks_on [] t y x p o same = absurd o
   breaks_on (level ∷ levels) t y x p o same =
       let b = one_title t (0xff ∷ []) y o.rest x h.Break p break_title o.is in
@@ -78,7 +78,7 @@ module _ (spot : Spot) (clear : spot.front ≡ []) (plain : spot.within ≡ w.No
       rw b.1 (subst (λ (z : List Level). Waits (broken z spot) y) same
       (rw (may, broken) ((settles levels (suc spot.depth) spot y clear).0 (rw b.2 o.behind))))
 
-  pub enters : (t y : List ℕ) (x : Header) → IsTitle t x → ItemDue spot.strict spot.depth spot.levels (t ++ y)
+  pub enters : (t y : List ℕ) (x : Header) → IsTitle t x → ItemDue spot.allowed spot.depth spot.levels (t ++ y)
       → Waits (item_entered x spot) y
   enters t y x p (inl o) = item_on t y o.item o.rest x p o.is_item o.behind o.is
   enters t y x p (inr o) = breaks_on spot.levels t y x p o refl
@@ -86,25 +86,25 @@ module _ (spot : Spot) (clear : spot.front ≡ []) (plain : spot.within ≡ w.No
   -- ---- and back
 
   break_back : (levels : List Level) (y : List ℕ) → Waits (broken levels spot) y
-      → Breaks spot.strict spot.depth levels (0xff ∷ y)
+      → Breaks spot.allowed spot.depth levels (0xff ∷ y)
   break_back (l.OpenItems ∷ levels) y waits =
       let behind = (settles levels (suc spot.depth) spot y clear).1 waits in search
   break_back (l.OpenValue ∷ levels) y waits =
       let behind = (settles levels (suc spot.depth) spot y clear).1 waits in search
   break_back levels y waits = absurd waits
 
-  module _ (t y : List ℕ) (x : Header) (p : IsTitle t x) (g : IsTakenTitle spot.strict t x) where
-    item_back : (r rest : List ℕ) → Completes spot.strict spot.depth x r → Behind rest → y ≡ r ++ rest
-        → ItemDue spot.strict spot.depth spot.levels (t ++ y)
+  module _ (t y : List ℕ) (x : Header) (p : IsTitle t x) (g : IsTakenTitle spot.allowed t x) where
+    item_back : (r rest : List ℕ) → Completes spot.allowed spot.depth x r → Behind rest → y ≡ r ++ rest
+        → ItemDue spot.allowed spot.depth spot.levels (t ++ y)
     item_back r rest c k e =
-        let is_item = item_of spot.strict spot.depth t r x p g c in
+        let is_item = item_of spot.allowed spot.depth t r x p g c in
         let there : t ++ y ≡ (t ++ r) ++ rest = simp (e, append_assoc) in inl (search)
 
     -- If the bytes that a nest takes complete the header, the spot after its title waits for a rest of the item.
     nest_back : (depth : ℕ) (level : Level) → depth ≡ spot.depth
-        → ((d n : ℕ) (items end : List ℕ) → Takes level n end → AreItems spot.strict d n items
-        → Completes spot.strict (suc d) x (items ++ end))
-        → Waits (nested depth level spot) y → ItemDue spot.strict spot.depth spot.levels (t ++ y)
+        → ((d n : ℕ) (items end : List ℕ) → Takes level n end → AreItems spot.allowed d n items
+        → Completes spot.allowed (suc d) x (items ++ end))
+        → Waits (nested depth level spot) y → ItemDue spot.allowed spot.depth spot.levels (t ++ y)
     nest_back zero level same completes waits = absurd waits
     nest_back (suc d) level same completes waits =
         let o = (settles (level ∷ spot.levels) d spot y clear).1 waits in
@@ -112,17 +112,18 @@ module _ (spot : Spot) (clear : spot.front ≡ []) (plain : spot.within ≡ w.No
         (rw same at (completes d o.count o.items o.end o.takes o.are_items)) (rw same at o.behind)
         (rw append_assoc o.is)
 
-    strings_back : (k : Kind) → EndsString spot.strict k Behind (spot.front ++ y)
-        → ((u : List ℕ) (bs : List (List ℕ)) → AreStrings k u bs → AreTakenStrings spot.strict k u bs → AreWritable k bs
-        → Completes spot.strict spot.depth x (u ++ 0xff ∷ []))
-        → ItemDue spot.strict spot.depth spot.levels (t ++ y)
+    strings_back : (k : Kind) → EndsString spot.allowed k Behind (spot.front ++ y)
+        → ((u : List ℕ) (bs : List (List ℕ)) → AreStrings k u bs → AreTakenStrings spot.allowed k u bs → AreWritable k
+        bs
+        → Completes spot.allowed spot.depth x (u ++ 0xff ∷ []))
+        → ItemDue spot.allowed spot.depth spot.levels (t ++ y)
     strings_back k waits completes =
         let o = rw clear at waits in
         item_back (o.strings ++ 0xff ∷ []) o.rest (completes o.strings o.bodies o.are o.taken o.sound) o.behind
         (rw append_assoc o.is)
 
-  pub entered_back : (t y : List ℕ) (x : Header) → IsTitle t x → IsTakenTitle spot.strict t x
-      → Waits (item_entered x spot) y → ItemDue spot.strict spot.depth spot.levels (t ++ y)
+  pub entered_back : (t y : List ℕ) (x : Header) → IsTitle t x → IsTakenTitle spot.allowed t x
+      → Waits (item_entered x spot) y → ItemDue spot.allowed spot.depth spot.levels (t ++ y)
   entered_back t y (h.Bytes (Some n)) p g waits =
       let b = rw plain at ((bytes_body n spot y clear).1 waits) in
       item_back t y _ p g b.body b.rest (byte_string b.long) b.behind b.is

@@ -1,6 +1,7 @@
 -- The bytes alone decide whether an item has ended or has a fault.
-use Rattle.std.proofs.Common.{ℕ, suc, ◌↔◌, Bool, List, [], ◌++◌, length, sym, ap, subst, ◌∙◌, arith, append-nil}
+use Rattle.std.proofs.Common.{ℕ, suc, ◌↔◌, List, [], ◌++◌, length, sym, ap, subst, ◌∙◌, arith, append-nil}
 use Rattle.std.proofs.Common.{length-append, inl, inr}
+use Rattle.ciborium_ll_grammar.specs.declared.spelling.Spelling.{Spelling}
 use Rattle.ciborium_ll_grammar.specs.Items.{IsItem}
 use Rattle.ciborium_ll_grammar.specs.Title.{IsCutTitle}
 use Rattle.ciborium_ll_grammar.proofs.AffixLaws.{announced, title_not_cut}
@@ -14,7 +15,7 @@ use Rattle.cbor_checker.proofs.LiveLaws.{FrontSound, fed_sound, fed_goes}
 -- ---- a fault
 
 -- There is a fault exactly if no item begins with the bytes so far.
-pub fault_exact : (s : Bool) (d : ℕ) (fed : List ℕ) (spot : Spot) → IsFed s d fed spot
+pub fault_exact : (s : Spelling) (d : ℕ) (fed : List ℕ) (spot : Spot) → IsFed s d fed spot
     → IsAtFault spot ↔ ((more : List ℕ) → IsItem s d (fed ++ more) → ⊥)
 fault_exact s d fed spot is = (
   λ has y i. let waits = (fed_same s d fed spot is y).0 i in grind arith,
@@ -24,7 +25,7 @@ fault_exact s d fed spot is = (
 -- ---- an end
 
 -- A title that is due does not come if no byte follows.
-no_title : (spot : Spot) → FrontSound spot → Titled spot.strict (spot.front ++ []) → ⊥
+no_title : (spot : Spot) → FrontSound spot → Titled spot.allowed (spot.front ++ []) → ⊥
 no_title spot (inl clear) o =
     let begun = announced o.title o.header o.is_title in grind (arith, length-append)
 no_title spot (inr c) o =
@@ -35,7 +36,8 @@ body_none : (n : ℕ) (P Then : List ℕ → Type 0) → BodyThen (suc n) P Then
 body_none n P Then o = let whole = ap length o.is in omega (arith, whole, o.long, length-append o.body o.rest)
 
 -- The item has ended exactly if the bytes so far are an item.
-pub ended_exact : (s : Bool) (d : ℕ) (fed : List ℕ) (spot : Spot) → IsFed s d fed spot → HasEnded spot ↔ IsItem s d fed
+pub ended_exact : (s : Spelling) (d : ℕ) (fed : List ℕ) (spot : Spot) → IsFed s d fed spot → HasEnded spot
+    ↔ IsItem s d fed
 ended_exact s d fed spot is =
     let same = fed_same s d fed spot is [] in
     let sound = fed_sound s d fed spot is in (

@@ -1,10 +1,12 @@
 -- The spots after a whole title, and after an item whose bytes are all there.
 use Rattle.std.proofs.Common.{◌≡◌, ℕ, ◌+◌, ◌/◌, ◌%◌, ◌<◌, ◌≤◌, List, [], ◌∷◌, ◌++◌, length, take, slice_index, refl}
-use Rattle.std.proofs.Common.{sym, ap, subst, ◌∙◌, arith, append_assoc, None, length-append, zero, suc, ◌-◌, Bool, true}
-use Rattle.std.proofs.Common.{false, length-drop, drop, Some, inl, inr, add-zero}
+use Rattle.std.proofs.Common.{sym, ap, subst, ◌∙◌, arith, append_assoc, None, length-append, zero, suc, ◌-◌, true}
+use Rattle.std.proofs.Common.{length-drop, drop, Some, inl, inr, add-zero}
 use Rattle.std.proofs.lemmas.Bool.Decides.{nat_tests}
 use Rattle.std.proofs.lemmas.List.{get_or-take, length-take-le, get_or-drop}
 use Rattle.ciborium_ll_text.proofs.Lists.{Below, below_rest, below_take, length_zero}
+use Rattle.ciborium_ll_grammar.specs.declared.spelling.Spelling.{Spelling}
+use Rattle.ciborium_ll_grammar.specs.declared.spelling.Spelling.TheVariants.{Any}
 use Rattle.ciborium_ll_grammar.specs.declared.hdr.Header.{Header}
 use Rattle.ciborium_ll_grammar.specs.declared.hdr.table.TitleKind.{TitleKind}
 use Rattle.ciborium_ll_grammar.specs.Title.{IsTitle, affix_len, AreBytes, title_len}
@@ -51,13 +53,13 @@ at_front u front n = record u { front = front; offset = n }
 -- The bytes of a title after its first byte, which is in the front, lead to the spot after the whole title.
 module _ (u : Spot) (b : ℕ) (header : Header) (at : u.phase ≡ p.Title) (may : MayStand u.within u.depth u.place b) where
   cut_step : (fs r : List ℕ) (x k : ℕ) → IsTitle (b ∷ fs ++ x ∷ r) header
-      → IsTakenTitle u.strict (b ∷ fs ++ x ∷ r) header → TitleStep (at_front u (b ∷ fs) k) (at_front u (b ∷ fs) k)
+      → IsTakenTitle u.allowed (b ∷ fs ++ x ∷ r) header → TitleStep (at_front u (b ∷ fs) k) (at_front u (b ∷ fs) k)
   cut_step fs r x k is taken =
       blocked_none (at_front u (b ∷ fs) k) may.kind b fs refl (is_cut _ fs r b x header is refl) may.is
       (x ∷ r, header, is, taken) may.free
 
   affix_leads : (x : ℕ) (r fs : List ℕ) (k n : ℕ) → Below (x ∷ r) → IsTitle (b ∷ fs ++ x ∷ r) header
-      → IsTakenTitle u.strict (b ∷ fs ++ x ∷ r) header → n ≡ k + length (x ∷ r)
+      → IsTakenTitle u.allowed (b ∷ fs ++ x ∷ r) header → n ≡ k + length (x ∷ r)
       → Leads (at_front u (b ∷ fs) k) (x ∷ r) (entered u.within header (at_front u [] n))
   affix_leads x [] fs k n below is taken e =
       let s = at_front u (b ∷ fs) k in
@@ -65,13 +67,14 @@ module _ (u : Spot) (b : ℕ) (header : Header) (at : u.phase ≡ p.Title) (may 
   affix_leads x (y ∷ ys) fs k n below is taken e =
       let front = fs ++ x ∷ [] in
       let is' : IsTitle (b ∷ front ++ y ∷ ys) header = rw append_assoc is in
-      let taken' : IsTakenTitle u.strict (b ∷ front ++ y ∷ ys) header = rw append_assoc taken in
+      let taken' : IsTakenTitle u.allowed (b ∷ front ++ y ∷ ys) header = rw append_assoc taken in
       go x (below 0 (omega arith)) (title_one x (at_front u (b ∷ fs) k) _ at (cut_step front ys y (k + 1) is' taken'))
       (affix_leads y ys front (k + 1) n (below_rest x (y ∷ ys) below) is' taken' (omega (arith, e)))
 
 -- All bytes of a title lead to the spot after the title, if none of them came before.
 fresh_leads : (t : List ℕ) (n : ℕ) (s : Spot) (header : Header) → Below t → s.phase ≡ p.Title → n ≡ length t → 0 < n
-    → IsTitle t header → IsTakenTitle s.strict t header → (1 < n → MayStand s.within s.depth s.offset (slice_index t 0))
+    → IsTitle t header → IsTakenTitle s.allowed t header
+    → (1 < n → MayStand s.within s.depth s.offset (slice_index t 0))
     → Leads (record s { front = [] }) t
     (entered s.within header (record s { front = []; place = s.offset; offset = s.offset + n }))
 fresh_leads [] n s header below at long some is taken may = absurd (omega arith)
@@ -94,7 +97,8 @@ front_whole xs n le whole =
 
 -- A whole title at the start of a list leads to the spot after the title.
 pub title_leads : (xs : List ℕ) (n : ℕ) (s : Spot) (header : Header) → Below xs → s.phase ≡ p.Title
-    → length s.front ≡ 0 → 0 < n → n ≤ length xs → IsTitle (take n xs) header → IsTakenTitle s.strict (take n xs) header
+    → length s.front ≡ 0 → 0 < n → n ≤ length xs → IsTitle (take n xs) header
+    → IsTakenTitle s.allowed (take n xs) header
     → (1 < n → MayStand s.within s.depth s.offset (slice_index xs 0))
     → Leads s (take n xs) (entered s.within header (record s { place = s.offset; offset = s.offset + n }))
 title_leads xs n s header below at clear some le is taken may =
@@ -118,7 +122,7 @@ pub from_due : {bytes : List ℕ} (s : Spot) → s.phase ≡ p.Title → length 
 from_due {bytes} s at clear in_none To = subst (λ (z : Spot). Leads z bytes (To z)) (sym (due_is s at clear in_none))
 
 -- A plain item leads to the spot after an item, with any empty front.
-pub plain_leads : (xs front : List ℕ) (n offset : ℕ) (s new : Spot) → IsPlainItem s.strict (take n xs) → n ≤ length xs
+pub plain_leads : (xs front : List ℕ) (n offset : ℕ) (s new : Spot) → IsPlainItem s.allowed (take n xs) → n ≤ length xs
     → s.phase ≡ p.Title → length s.front ≡ 0 → s.within ≡ w.Nothing → length front ≡ 0 → offset ≡ s.offset + n
     → new ≡ item_done (record s { front = front; place = s.offset; offset = offset }) → Leads s (take n xs) new
 plain_leads xs front n offset s new plain le at clear in_none none counts e =
@@ -151,11 +155,11 @@ text_come xs (suc k) u below le ends =
     (rw (none_left (suc k)) (sym (left_alike true 0 s.Between (counted_by (suc k) (due u)) (p.Text (suc k) s.Between))))
 
 -- A title of `n` bytes, which is taken and may stand there, and a body of `len` bytes are a plain item.
-module _ (xs : List ℕ) (n len all : ℕ) (strict : Bool) (below : Below xs) (some : 0 < n) (sum : all ≡ n + len)
+module _ (xs : List ℕ) (n len all : ℕ) (allowed : Spelling) (below : Below xs) (some : 0 < n) (sum : all ≡ n + len)
     (le : all ≤ length xs) (may : 1 < n → (d place : ℕ) → MayStand w.Nothing d place (slice_index xs 0)) where
-  titled_item : (header : Header) → IsTitle (take n xs) header × IsTakenTitle strict (take n xs) header
+  titled_item : (header : Header) → IsTitle (take n xs) header × IsTakenTitle allowed (take n xs) header
       → ((s : Spot) → Leads (item_entered header (passed n (due s))) (take len (drop n xs))
-      (item_done (counted_by len (passed n (due s))))) → IsPlainItem strict (take all xs)
+      (item_done (counted_by len (passed n (due s))))) → IsPlainItem allowed (take all xs)
   titled_item header title body = λ s at clear in_none same.
       let long = length-take-le all xs le in
       let moved : s.offset + length (take all xs) ≡ s.offset + n + len = omega arith in
@@ -170,16 +174,16 @@ module _ (xs : List ℕ) (n len all : ℕ) (strict : Bool) (below : Below xs) (s
       (body s)))
 
   -- A byte string is a plain item.
-  pub bytes_item : IsTitle (take n xs) (h.Bytes (Some len)) × IsTakenTitle strict (take n xs) (h.Bytes (Some len))
-      → IsPlainItem strict (take all xs)
+  pub bytes_item : IsTitle (take n xs) (h.Bytes (Some len)) × IsTakenTitle allowed (take n xs) (h.Bytes (Some len))
+      → IsPlainItem allowed (take all xs)
   bytes_item title =
       titled_item (h.Bytes (Some len)) title (λ s. bytes_come (drop n xs) len (passed n (due s)) (below_drop n xs below)
       (omega (arith, length-drop n xs)))
 
   -- A text with its shortest title is a plain item.
-  pub text_item : IsTitle (take n xs) (h.Text (Some len)) × IsTakenTitle strict (take n xs) (h.Text (Some len))
+  pub text_item : IsTitle (take n xs) (h.Text (Some len)) × IsTakenTitle allowed (take n xs) (h.Text (Some len))
       → title_len (h.Text (Some len)) ≡ n → s.Between ≡ after s.Between (take len (drop n xs))
-      → IsPlainItem strict (take all xs)
+      → IsPlainItem allowed (take all xs)
   text_item title shortest ends =
       titled_item (h.Text (Some len)) title (λ s.
       let u = passed n (due s) in
@@ -195,12 +199,12 @@ one_long t len is long =
     omega (arith, least, most, long)
 
 -- A title that is an item by itself is a plain item.
-pub title_item : (xs : List ℕ) (n : ℕ) (strict : Bool) (header : Header) → Below xs → 0 < n → n ≤ length xs
+pub title_item : (xs : List ℕ) (n : ℕ) (allowed : Spelling) (header : Header) → Below xs → 0 < n → n ≤ length xs
     → (1 < n → (d place : ℕ) → MayStand w.Nothing d place (slice_index xs 0))
-    → IsTitle (take n xs) header × IsTakenTitle strict (take n xs) header
-    → ((u : Spot) → item_entered header u ≡ item_done u) → IsPlainItem strict (take n xs)
-title_item xs n strict header below some le may title ends =
-    titled_item xs n 0 n strict below some (omega arith) le may header title
+    → IsTitle (take n xs) header × IsTakenTitle allowed (take n xs) header
+    → ((u : Spot) → item_entered header u ≡ item_done u) → IsPlainItem allowed (take n xs)
+title_item xs n allowed header below some le may title ends =
+    titled_item xs n 0 n allowed below some (omega arith) le may header title
     (λ s. rw (ends (passed n (due s)), add-zero (s.offset + n)) stay)
 
 -- ---- a longer title of a number, a float or a simple value
@@ -211,7 +215,7 @@ below_bytes (x ∷ xs) below = (below 0 (omega arith), below_bytes xs (below_res
 
 pub value_item : (xs : List ℕ) (n : ℕ) (kind : TitleKind) → Below xs → is_single kind ≡ true → 1 < n → n ≤ length xs
     → n ≡ 1 + affix_len (slice_index xs 0 % 32) → IsTitleKind kind (slice_index xs 0 / 32) (slice_index xs 0 % 32)
-    → IsPlainItem false (take n xs)
+    → IsPlainItem Any (take n xs)
 value_item [] n kind below value more le long is = absurd (omega arith)
 value_item (b ∷ xs) n kind below value more le long is =
     let affix : List ℕ = take (affix_len (b % 32)) xs in
@@ -221,7 +225,7 @@ value_item (b ∷ xs) n kind below value more le long is =
     let some : 0 < affix_len (b % 32) = omega (arith, more, long) in
     elim (title_or_refused b affix (below 0 (omega arith)) bytes (length-take-le (affix_len (b % 32)) xs fits)) [
       | inl r ↦ absurd (let none = refused_affix b r in omega (arith, none, some))
-      | inr t ↦ title_item (b ∷ xs) n false t.0 below (omega (arith, more)) le
+      | inr t ↦ title_item (b ∷ xs) n Any t.0 below (omega (arith, more)) le
           (λ more d place. record { kind = kind; is = is; free = value_free d place kind value }) (rw counts t.1, tt)
           (λ u. value_entered b affix (b ∷ affix) t.0 kind u t.1 refl some is value)
     ]

@@ -1,4 +1,5 @@
 -- The spot that several bytes lead to at once.
+use Rattle.ciborium_ll_grammar.specs.declared.spelling.Spelling.{Spelling}
 use Rattle.std.proofs.Common.{◌≡◌, ℕ, zero, suc, ◌+◌, ◌-◌, ◌<◌, ◌≤◌, Bool, true, false, List, [], ◌∷◌, ◌++◌, length}
 use Rattle.std.proofs.Common.{take, drop, slice_index, refl, sym, ap, subst, ◌∙◌, arith, append_assoc, append-nil}
 use Rattle.std.proofs.Common.{length-append, le-leb}
@@ -23,7 +24,7 @@ use Rattle.cbor_checker.proofs.TellLaws.{step_counts}
 -- ---- bytes that lead somewhere
 
 -- Bytes that lead on from a fed spot are fed after the bytes before.
-pub leads_fed : (s : Bool) (d : ℕ) (fed xs : List ℕ) (spot new : Spot) → IsFed s d fed spot → Leads spot xs new
+pub leads_fed : (s : Spelling) (d : ℕ) (fed xs : List ℕ) (spot new : Spot) → IsFed s d fed spot → Leads spot xs new
     → IsFed s d (fed ++ xs) new
 leads_fed s d fed xs spot new is stay = rw append-nil is
 leads_fed s d fed xs spot new is (go {bytes = ys} {next = m} b below one rest) =

@@ -1,6 +1,7 @@
 -- The bytes that are due after the end of a level or of a string.
-use Rattle.std.proofs.Common.{◌≡◌, ℕ, suc, ◌-◌, ◌⊎◌, Bool, true, List, [], ◌∷◌, ◌++◌, Option, Some, None, refl, subst}
+use Rattle.std.proofs.Common.{◌≡◌, ℕ, suc, ◌-◌, ◌⊎◌, true, List, [], ◌∷◌, ◌++◌, Option, Some, None, refl, subst}
 use Rattle.std.proofs.Common.{inl, inr, arith, append_assoc, append-nil}
+use Rattle.ciborium_ll_grammar.specs.declared.spelling.Spelling.{Spelling}
 use Rattle.ciborium_ll_grammar.specs.declared.hdr.Header.{Header}
 use Rattle.ciborium_ll_grammar.specs.Title.{IsTitle}
 use Rattle.ciborium_ll_grammar.specs.Items.{Completes, AreItems, IsTakenTitle, no_items, more_items, IsItem}
@@ -28,11 +29,11 @@ next_back f g n e d t = grind arith
 -- ---- a level with one more item due
 
 -- A title and the bytes that complete its header are an item.
-pub item_of : (s : Bool) (d : ℕ) (t r : List ℕ) (x : Header) → IsTitle t x → IsTakenTitle s t x → Completes s d x r
+pub item_of : (s : Spelling) (d : ℕ) (t r : List ℕ) (x : Header) → IsTitle t x → IsTakenTitle s t x → Completes s d x r
     → IsItem s d (t ++ r)
 item_of s d t r x p g c = subst (λ (z : List ℕ). IsItem s d (t ++ z)) (append-nil r) (more_items p g c no_items)
 
-module _ (s : Bool) (f g : Level) (d : ℕ) (Then : List ℕ → Type 0) (goes : next f ≡ Some g) where
+module _ (s : Spelling) (f g : Level) (d : ℕ) (Then : List ℕ → Type 0) (goes : next f ≡ Some g) where
   level_opens : (n : ℕ) (items e rest y : List ℕ) → AreItems s d n items → Takes f n e → Then rest
       → y ≡ items ++ (e ++ rest) → ItemThen s d (EndsLevel s g d Then) y ⊎ BreakThen g Then y
   level_opens n items e rest y no_items t k is =
@@ -66,7 +67,8 @@ abbrev pub Same : Type 0 → Type 0 → Type 0
 Same A B = (A → B) × (B → A)
 
 -- A level without an item due ends with no byte.
-done_level : (s : Bool) (f : Level) (d : ℕ) (Then : List ℕ → Type 0) → next f ≡ None → (n : ℕ) (items e rest y : List ℕ)
+done_level : (s : Spelling) (f : Level) (d : ℕ) (Then : List ℕ → Type 0) → next f ≡ None
+    → (n : ℕ) (items e rest y : List ℕ)
     → AreItems s d n items → Takes f n e → Then rest → y ≡ items ++ (e ++ rest) → Then y
 done_level s f d Then done n items e rest y no_items t k is =
     let end : e ≡ [] = grind arith in rw (is, end) k
@@ -74,30 +76,30 @@ done_level s f d Then done n items e rest y (more_items q v c i) t k is =
     absurd (grind arith)
 
 settled_next : (o : Option Level) (f : Level) (fs : List Level) (d : ℕ) (spot : Spot) (y : List ℕ) → next f ≡ o
-    → spot.front ≡ [] → Same (Ends spot.strict (suc d) fs y) (Waits (settled (suc d) fs spot) y)
-    → Same (Ends spot.strict d (f ∷ fs) y) (Waits (settled d (f ∷ fs) spot) y)
+    → spot.front ≡ [] → Same (Ends spot.allowed (suc d) fs y) (Waits (settled (suc d) fs spot) y)
+    → Same (Ends spot.allowed d (f ∷ fs) y) (Waits (settled d (f ∷ fs) spot) y)
 settled_next None f fs d spot y e clear same =
     rw (e, settled) (
-      λ o. same.0 (done_level spot.strict f d (Ends spot.strict (suc d) fs) e o.count o.items o.end o.rest y
+      λ o. same.0 (done_level spot.allowed f d (Ends spot.allowed (suc d) fs) e o.count o.items o.end o.rest y
           o.are_items o.takes o.behind o.is),
       λ waits. let behind = same.1 waits in let takes : Takes f 0 [] = grind arith in
-          let none : AreItems spot.strict d 0 [] = no_items in search,
+          let none : AreItems spot.allowed d 0 [] = no_items in search,
     )
 settled_next (Some g) f fs d spot y e clear same =
     rw (e, settled, clear) (
-      λ o. level_opens spot.strict f g d _ e o.count o.items o.end o.rest y o.are_items o.takes o.behind o.is,
-      λ waits. level_closes spot.strict f g d _ e y waits,
+      λ o. level_opens spot.allowed f g d _ e o.count o.items o.end o.rest y o.are_items o.takes o.behind o.is,
+      λ waits. level_closes spot.allowed f g d _ e y waits,
     )
 
 -- After a whole item, the spot waits for the bytes that end all levels.
 pub settles : (fs : List Level) (d : ℕ) (spot : Spot) (y : List ℕ) → spot.front ≡ []
-    → Same (Ends spot.strict d fs y) (Waits (settled d fs spot) y)
+    → Same (Ends spot.allowed d fs y) (Waits (settled d fs spot) y)
 settles [] d spot y clear = (λ e. e, λ e. e)
 settles (f ∷ fs) d spot y clear = settled_next (next f) f fs d spot y refl clear (settles fs (suc d) spot y clear)
 
 -- After a string of a definite length, the spot waits for the bytes that are due then.
 pub string_ends : (i : Within) (spot : Spot) (y : List ℕ) → spot.front ≡ [] → i ≡ spot.within
-    → Same (StringDone spot.strict i spot.depth spot.levels y) (Waits (string_done i spot) y)
+    → Same (StringDone spot.allowed i spot.depth spot.levels y) (Waits (string_done i spot) y)
 string_ends w.Nothing spot y clear same = settles spot.levels spot.depth spot y clear
 string_ends (w.Bytes n) spot y clear same = rw (← same, clear) (λ e. e, λ e. e)
 string_ends (w.Text n) spot y clear same = rw (← same, clear) (λ e. e, λ e. e)

@@ -1,9 +1,10 @@
 -- If there is no fault, some bytes make an item of the bytes so far.
-use Rattle.std.proofs.Common.{◌≡◌, ℕ, zero, suc, ◌*◌, ◌<◌, ◌⊎◌, inl, inr, Bool, true, List, [], ◌∷◌, ◌++◌, length}
+use Rattle.std.proofs.Common.{◌≡◌, ℕ, zero, suc, ◌*◌, ◌<◌, ◌⊎◌, inl, inr, true, List, [], ◌∷◌, ◌++◌, length}
 use Rattle.std.proofs.Common.{le-leb, refl, sym, arith, append_assoc}
 use Rattle.std.proofs.Math.ListN.{replicate}
 use Rattle.std.proofs.lemmas.Bool.Decides.{nat_tests}
 use Rattle.std.proofs.lemmas.List.{length-replicate}
+use Rattle.ciborium_ll_grammar.specs.declared.spelling.Spelling.{Spelling}
 use Rattle.ciborium_ll_grammar.specs.declared.hdr.Header.{Header}
 use Rattle.ciborium_ll_grammar.specs.Title.{IsTitle, IsCutTitle, AreBytes, numbered, Unsigned, Small}
 use Rattle.ciborium_ll_grammar.specs.Items.{AreItems, IsItem, no_items, more_items, positive}
@@ -32,7 +33,7 @@ use Rattle.cbor_checker.proofs.KeptLaws.{Ready, string_kept, bytes_kept, entered
 -- ---- the end of levels and strings
 
 -- Zeros are items in their shortest spelling.
-zeros : (s : Bool) (d n : ℕ) → (items : List ℕ) × AreItems s d n items
+zeros : (s : Spelling) (d n : ℕ) → (items : List ℕ) × AreItems s d n items
 zeros s d zero = ([], no_items)
 zeros s d (suc n) =
     let (others, are) = zeros s d n in
@@ -47,26 +48,26 @@ level_ending l.OpenItems = (0, 0xff ∷ [], (tt, refl))
 level_ending l.OpenPairs = (0, 0xff ∷ [], ((0, omega arith), refl))
 level_ending l.OpenValue = (1, 0xff ∷ [], ((0, omega arith), refl))
 
-some_ends : (s : Bool) (levels : List Level) (d : ℕ) → (y : List ℕ) × Ends s d levels y
+some_ends : (s : Spelling) (levels : List Level) (d : ℕ) → (y : List ℕ) × Ends s d levels y
 some_ends s [] d = ([], refl)
 some_ends s (level ∷ levels) d =
     let (rest, behind) = some_ends s levels (suc d) in
     let (n, end, takes) = level_ending level in
     let (items, are) = zeros s d n in (items ++ (end ++ rest), search)
 
-some_strings : (s : Bool) (k : Kind) (n : ℕ) (Then : List ℕ → Type 0) → (y : List ℕ) × Then y
+some_strings : (s : Spelling) (k : Kind) (n : ℕ) (Then : List ℕ → Type 0) → (y : List ℕ) × Then y
     → (z : List ℕ) × EndsStrings s k n Then z
 some_strings s k zero Then (y, behind) = (0xff ∷ y, end_back s k Then (0xff ∷ []) y refl behind)
 some_strings s k (suc n) Then o =
     let (y, behind) = some_strings s k n Then o in
     (0xff ∷ y, end_back s k (EndsStrings s k n Then) (0xff ∷ []) y refl behind)
 
-some_done : (s : Bool) (i : Within) (d : ℕ) (levels : List Level) → (y : List ℕ) × StringDone s i d levels y
+some_done : (s : Spelling) (i : Within) (d : ℕ) (levels : List Level) → (y : List ℕ) × StringDone s i d levels y
 some_done s w.Nothing d levels = some_ends s levels d
 some_done s (w.Bytes n) d levels = some_strings s Bytes n (Ends s d levels) (some_ends s levels d)
 some_done s (w.Text n) d levels = some_strings s Text n (Ends s d levels) (some_ends s levels d)
 
-some_due : (s : Bool) (i : Within) (d : ℕ) (levels : List Level) → (y : List ℕ) × TitleDue s i d levels y
+some_due : (s : Spelling) (i : Within) (d : ℕ) (levels : List Level) → (y : List ℕ) × TitleDue s i d levels y
 some_due s w.Nothing d levels =
     let (rest, behind) = some_ends s levels d in
     let (item, is_item) = zeros s d 1 in
@@ -95,7 +96,7 @@ some_body state (suc n) may =
 -- No title came, or a part of a title that is taken and may stand there.
 abbrev pub FrontSound : Spot → Type 0
 FrontSound spot = (spot.front ≡ []) ⊎ (AreBytes spot.front × IsCutTitle spot.front
-    × SomeTaken spot.strict spot.front × ((behind : List ℕ) (x : Header) (fault : Fault)
+    × SomeTaken spot.allowed spot.front × ((behind : List ℕ) (x : Header) (fault : Fault)
     → IsTitle (spot.front ++ behind) x
     → (titled x spot).phase ≡ p.Faulted fault → ⊥))
 
@@ -115,7 +116,7 @@ step_sound : (phase : Phase) (spot new : Spot) (b : ℕ) → phase ≡ spot.phas
 step_sound phase spot new b e sound byte step =
     grind (arith, title_sound, byte_front, bytes_kept, string_kept)
 
-pub fed_sound : (s : Bool) (d : ℕ) (fed : List ℕ) (spot : Spot) → IsFed s d fed spot → Sound spot
+pub fed_sound : (s : Spelling) (d : ℕ) (fed : List ℕ) (spot : Spot) → IsFed s d fed spot → Sound spot
 fed_sound s d fed spot fresh = (tt, λ at. inl refl)
 fed_sound s d fed spot (more {bytes = a} {spot = before} b byte is step) =
     step_sound before.phase before spot b refl (fed_sound s d a before is) byte step
@@ -126,14 +127,14 @@ abbrev NoFault : Spot → Type 0
 NoFault spot = (fault : Fault) → spot.phase ≡ p.Faulted fault → ⊥
 
 body_goes : (Sound : List ℕ → Type 0) (n : ℕ) (spot : Spot) → (b : List ℕ) × (length b ≡ n) × Sound b
-    → (y : List ℕ) × BodyThen n Sound (StringDone spot.strict spot.within spot.depth spot.levels) y
+    → (y : List ℕ) × BodyThen n Sound (StringDone spot.allowed spot.within spot.depth spot.levels) y
 body_goes Sound n spot (body, long, sound) =
-    let (rest, behind) = some_done spot.strict spot.within spot.depth spot.levels in
+    let (rest, behind) = some_done spot.allowed spot.within spot.depth spot.levels in
     (body ++ rest, search)
 
 first_goes : (spot : Spot) → spot.front ≡ []
-    → (y : List ℕ) × TitleDue spot.strict spot.within spot.depth spot.levels (spot.front ++ y)
-first_goes spot clear = rw clear (some_due spot.strict spot.within spot.depth spot.levels)
+    → (y : List ℕ) × TitleDue spot.allowed spot.within spot.depth spot.levels (spot.front ++ y)
+first_goes spot clear = rw clear (some_due spot.allowed spot.within spot.depth spot.levels)
 
 -- A sound spot without a fault waits for some bytes, if this spot does with a title due.
 live_in : (phase : Phase) (spot : Spot) → phase ≡ spot.phase → Ready phase → NoFault spot
@@ -147,7 +148,7 @@ live_in p.Ended spot e ready goes title = ([], refl)
 live_in (p.Faulted fault) spot e ready goes title = absurd (goes fault (sym e))
 
 title_goes : (spot : Spot) → FrontSound spot
-    → (y : List ℕ) × TitleDue spot.strict spot.within spot.depth spot.levels (spot.front ++ y)
+    → (y : List ℕ) × TitleDue spot.allowed spot.within spot.depth spot.levels (spot.front ++ y)
 title_goes spot (inl clear) = first_goes spot clear
 title_goes spot (inr (bytes, c, (behind, header, is_title, taken), may)) =
     let at = titled header spot in
@@ -159,7 +160,7 @@ title_goes spot (inr (bytes, c, (behind, header, is_title, taken), may)) =
     goes.1 in (behind ++ goes.0, rw append_assoc at due)
 
 -- If there is no fault, some bytes make an item of the bytes so far.
-pub fed_goes : (s : Bool) (d : ℕ) (fed : List ℕ) (spot : Spot) → IsFed s d fed spot → NoFault spot
+pub fed_goes : (s : Spelling) (d : ℕ) (fed : List ℕ) (spot : Spot) → IsFed s d fed spot → NoFault spot
     → (y : List ℕ) × IsItem s d (fed ++ y)
 fed_goes s d fed spot is goes =
     let sound = fed_sound s d fed spot is in

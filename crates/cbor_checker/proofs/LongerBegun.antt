@@ -1,5 +1,5 @@
 -- The bytes that begin a title that is the shortest of its header.
-use Rattle.std.proofs.Common.{◌≡◌, ℕ, zero, suc, ◌-◌, ◌<◌, ◌≤◌, ◌%◌, ◌⊎◌, inl, inr, Bool, true, false, List, [], ◌∷◌}
+use Rattle.std.proofs.Common.{◌≡◌, ℕ, zero, suc, ◌-◌, ◌<◌, ◌≤◌, ◌%◌, ◌⊎◌, inl, inr, true, false, List, [], ◌∷◌}
 use Rattle.std.proofs.Common.{◌++◌, length, get_or, refl, ap, subst, arith, length-append, slice_index, Option, Some}
 use Rattle.std.proofs.Common.{None, IfSome, IfNone}
 use Rattle.std.proofs.Math.ListN.{replicate}
@@ -7,6 +7,8 @@ use Rattle.std.proofs.lemmas.Bool.{false_from_ne_true}
 use Rattle.std.proofs.lemmas.Bool.Decides.{nat_tests}
 use Rattle.std.proofs.Math.Seq.{get_or-append_right}
 use Rattle.std.proofs.lemmas.List.{length-replicate, get_or_append_left, get_or-replicate}
+use Rattle.ciborium_ll_grammar.specs.declared.spelling.Spelling.{Spelling}
+use Rattle.ciborium_ll_grammar.specs.declared.spelling.Spelling.TheVariants.{Any, Shortest}
 use Rattle.ciborium_ll_grammar.specs.declared.hdr.Header.{Header}
 use Rattle.ciborium_ll_grammar.specs.declared.hdr.Minor.{Minor}
 use Rattle.ciborium_ll_grammar.specs.Title.{Major, major_code, first_byte, Size, size_limit, affix_len, numbered_title}
@@ -31,15 +33,15 @@ same_at a m t r e i la lt = cc (get_or_append_left t r 0 i lt, get_or_append_lef
 -- A title that begins longer is not the shortest of its header.
 by_title : (front m t r : List ℕ) (x : Header) → BeginsLonger front → 0 < length front → IsTitle t x
     → front ++ m ≡ t ++ r → IsStrictTitle t x → ⊥
-by_title front m t r x longer some (numbered k s n p) e strict =
-    let at = same_at front m (numbered_title k s n) r e in refused k s n p (grind tests) strict
-by_title front m t r x longer some (alone k y o) e strict =
+by_title front m t r x longer some (numbered k s n p) e allowed =
+    let at = same_at front m (numbered_title k s n) r e in refused k s n p (grind tests) allowed
+by_title front m t r x longer some (alone k y o) e allowed =
     let first = same_at front m (first_byte k 31 ∷ []) r e 0 some (omega arith) in omega arith
 
 -- No strict title begins with bytes that begin a longer title.
-pub longer_none : (front : List ℕ) → 0 < length front → BeginsLonger front → NoneTaken true front
-longer_none front some longer = λ more title rest header is_title strict e.
-    by_title front more title rest header longer some is_title e strict
+pub longer_none : (front : List ℕ) → 0 < length front → BeginsLonger front → NoneTaken Shortest front
+longer_none front some longer = λ more title rest header is_title allowed e.
+    by_title front more title rest header longer some is_title e allowed
 
 -- ---- other bytes begin a shortest title
 
@@ -74,7 +76,7 @@ module _ (a : List ℕ) (k : ℕ) (some : 0 < length a) (more : 0 < k) (never : 
 
 -- Bytes that begin no longer title begin the shortest title of some header.
 longer_some : (b : ℕ) (a : List ℕ) → b < 256 → AreBytes a → length a < affix_len (b % 32)
-    → (BeginsLonger (b ∷ a) → ⊥) → SomeTaken true (b ∷ a)
+    → (BeginsLonger (b ∷ a) → ⊥) → SomeTaken Shortest (b ∷ a)
 longer_some b a byte bytes less never =
     let k = affix_len (b % 32) - length a in
     let whole = a ++ replicate k 255 in
@@ -97,13 +99,13 @@ are_bytes [] f = tt
 are_bytes (x ∷ xs) f = (f 0, are_bytes xs (λ i. f (suc i)))
 
 pub strict_some : (xs : List ℕ) → ((i : ℕ) → get_or xs i 0 < 256) → 0 < length xs
-    → length xs ≤ affix_len (slice_index xs 0 % 32) → (BeginsLonger xs → ⊥) → SomeTaken true xs
+    → length xs ≤ affix_len (slice_index xs 0 % 32) → (BeginsLonger xs → ⊥) → SomeTaken Shortest xs
 strict_some [] f some short never = absurd (omega (arith, some))
 strict_some (b ∷ a) f some short never =
     longer_some b a (f 0) (are_bytes a (λ i. f (suc i))) (omega (arith, short)) never
 
 -- If any spelling is taken, each beginning of a title begins a title that is taken.
-pub any_some : (s : Bool) (xs : List ℕ) → s ≡ false → ((i : ℕ) → get_or xs i 0 < 256) → 0 < length xs
+pub any_some : (s : Spelling) (xs : List ℕ) → s ≡ Any → ((i : ℕ) → get_or xs i 0 < 256) → 0 < length xs
     → length xs ≤ affix_len (slice_index xs 0 % 32) → SomeTaken s xs
 any_some s [] any f some short = absurd (omega (arith, some))
 any_some s (b ∷ a) any f some short =
@@ -113,29 +115,29 @@ any_some s (b ∷ a) any f some short =
 -- ---- a whole title
 
 -- No title that is taken begins with refused bytes.
-pub refused_none : (s : Bool) (xs : List ℕ) → BeginsRefused xs → NoneTaken s xs
+pub refused_none : (s : Spelling) (xs : List ℕ) → BeginsRefused xs → NoneTaken s xs
 refused_none s [] r = absurd r
 refused_none s (b ∷ a) r = λ more title rest header is_title taken e.
     title_refused title rest header is_title (subst BeginsRefused e r)
 
 -- No title that is taken begins with the bytes of longer parts.
 pub parts_none : (major : ℕ) (minor : Minor) (xs : List ℕ) → major < 8 → IsMinor minor
-    → refused_when_strict major minor ≡ true → parts_bytes major minor ≡ xs → NoneTaken true xs
+    → refused_when_strict major minor ≡ true → parts_bytes major minor ≡ xs → NoneTaken Shortest xs
 parts_none major minor xs l p longer is = λ more title rest header is_title taken e.
     let o = parts_header major minor l p longer in
     let same = one_title (parts_bytes major minor) title more rest o.0 header o.1 is_title (cc) in
     parts_refused major minor header l p (rw same.0 is_title) longer (rw same.0 taken)
 
 -- The header of parts that are not longer has a title that is taken.
-pub some_taken : (header : Option Header) (s : Bool) (major : ℕ) (minor : Minor) (xs : List ℕ) → major < 8
-    → IsMinor minor → (s ≡ true → refused_when_strict major minor ≡ false) → parts_bytes major minor ≡ xs
+pub some_taken : (header : Option Header) (s : Spelling) (major : ℕ) (minor : Minor) (xs : List ℕ) → major < 8
+    → IsMinor minor → (s ≡ Shortest → refused_when_strict major minor ≡ false) → parts_bytes major minor ≡ xs
     → IfSome header (IsTitle (parts_bytes major minor)) → IfSome header (IsTakenTitle s xs)
-some_taken (Some header) true major minor xs l p shortest is title =
+some_taken (Some header) Shortest major minor xs l p shortest is title =
     rw (← is) (parts_taken major minor header l p title (shortest refl))
 some_taken header s major minor xs l p shortest is title = tt
 
 -- No title that is taken begins with the bytes of parts without a header.
-pub none_means : (header : Option Header) (s : Bool) (major : ℕ) (minor : Minor) (xs : List ℕ)
+pub none_means : (header : Option Header) (s : Spelling) (major : ℕ) (minor : Minor) (xs : List ℕ)
     → parts_bytes major minor ≡ xs → IfNone header ((minor_code minor ≡ 31) × IsNeverOpen major)
     → IfNone header (NoneTaken s xs)
 none_means (Some header) s major minor xs is none = tt

@@ -1,7 +1,8 @@
 -- The same bytes lead to one spot.
-use Rattle.std.proofs.Common.{◌≡◌, ℕ, Bool, List, [], ◌∷◌, ◌++◌, length, refl, sym, ap, subst, ◌∙◌, arith, append-nil}
+use Rattle.std.proofs.Common.{◌≡◌, ℕ, List, [], ◌∷◌, ◌++◌, length, refl, sym, ap, subst, ◌∙◌, arith, append-nil}
 use Rattle.std.proofs.Common.{length-append}
 use Rattle.std.proofs.lemmas.Bool.Decides.{nat_tests}
+use Rattle.ciborium_ll_grammar.specs.declared.spelling.Spelling.{Spelling}
 use Rattle.ciborium_ll_grammar.specs.declared.hdr.Header.{Header}
 use Rattle.ciborium_ll_grammar.specs.Title.{IsTitle, IsCutTitle}
 use Rattle.ciborium_ll_grammar.proofs.TitleLaws.{one_title}
@@ -15,7 +16,7 @@ use Rattle.cbor_checker.specs.Steps.{Step, IsFed, fresh, more}
 whole_cut : (spot : Spot) (x : Header) → IsTitle spot.front x → IsCutTitle spot.front → ⊥
 whole_cut spot x q c = title_not_cut spot.front [] x q (subst IsCutTitle (sym (append-nil spot.front)) c)
 
-some_none : (s : Bool) (front : List ℕ) → SomeTaken s front → NoneTaken s front → ⊥
+some_none : (s : Spelling) (front : List ℕ) → SomeTaken s front → NoneTaken s front → ⊥
 some_none s front some never =
     let t = front ++ some.0 in
     never some.0 t [] some.1 some.2 some.3 (sym (append-nil t))
@@ -24,19 +25,19 @@ title_one : (u a b : Spot) → TitleStep u a → TitleStep u b → a ≡ b
 title_one u a b (cut c o may) (cut d o' may') = refl
 title_one u a b (cut c o may) (early y d o' all) = absurd (may o.0 o.1 y o.2 (all o.0 o.1 o.2))
 title_one u a b (cut c o may) (whole x q g) = absurd (whole_cut u x q c)
-title_one u a b (cut c o may) (none never) = absurd (some_none u.strict u.front o never)
+title_one u a b (cut c o may) (none never) = absurd (some_none u.allowed u.front o never)
 title_one u a b (early y d o all) (cut c o' may) = absurd (may o.0 o.1 y o.2 (all o.0 o.1 o.2))
 title_one u a b (early y c o all) (early y' d o' all') =
     ap (λ (z : Phase). at_phase z u) (sym (all o.0 o.1 o.2) ∙ all' o.0 o.1 o.2)
 title_one u a b (early y c o all) (whole x q g) = absurd (whole_cut u x q c)
-title_one u a b (early y c o all) (none never) = absurd (some_none u.strict u.front o never)
+title_one u a b (early y c o all) (none never) = absurd (some_none u.allowed u.front o never)
 title_one u a b (whole x q g) (cut c o may) = absurd (whole_cut u x q c)
 title_one u a b (whole x q g) (early y c o all) = absurd (whole_cut u x q c)
 title_one u a b (whole x q g) (whole x' q' g') =
     ap (λ (z : Header). titled z u) (one_title u.front u.front [] [] x x' q q' refl).1
 title_one u a b (whole x q g) (none never) = absurd (never [] u.front [] x q g refl)
-title_one u a b (none never) (cut c o may) = absurd (some_none u.strict u.front o never)
-title_one u a b (none never) (early y c o all) = absurd (some_none u.strict u.front o never)
+title_one u a b (none never) (cut c o may) = absurd (some_none u.allowed u.front o never)
+title_one u a b (none never) (early y c o all) = absurd (some_none u.allowed u.front o never)
 title_one u a b (none never) (whole x q g) = absurd (never [] u.front [] x q g refl)
 title_one u a b (none never) (none never') = refl
 
@@ -58,7 +59,7 @@ same_last (x ∷ xs) (y ∷ ys) b c e =
     let o = same_last xs ys b c tails in
     (cc (heads, o.0), o.1)
 
-one_from : (s : Bool) (d : ℕ) (fed : List ℕ) (a : Spot) → IsFed s d fed a → (other : List ℕ) (b : Spot)
+one_from : (s : Spelling) (d : ℕ) (fed : List ℕ) (a : Spot) → IsFed s d fed a → (other : List ℕ) (b : Spot)
     → IsFed s d other b → fed ≡ other → a ≡ b
 one_from s d fed a fresh other b fresh e = refl
 one_from s d fed a fresh other b (more {bytes = ys} c byte is step) e = absurd (no_last ys c e)
@@ -71,5 +72,5 @@ one_from s d fed a (more {bytes = xs} {spot = u} c byte is step) other b
     step_one u.phase u a b c step first
 
 -- The same bytes lead to one spot.
-pub one_spot : (s : Bool) (d : ℕ) (fed : List ℕ) (a b : Spot) → IsFed s d fed a → IsFed s d fed b → a ≡ b
+pub one_spot : (s : Spelling) (d : ℕ) (fed : List ℕ) (a b : Spot) → IsFed s d fed a → IsFed s d fed b → a ≡ b
 one_spot s d fed a b f g = one_from s d fed a f fed b g refl

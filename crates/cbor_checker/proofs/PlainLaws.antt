@@ -13,6 +13,8 @@ use Rattle.ciborium_ll_text.specs.declared.state.State.{State}
 use Rattle.ciborium_ll_text.specs.States.{after}
 use Rattle.ciborium_ll_text.specs.Text.{IsFront}
 use Rattle.ciborium_ll_text.proofs.StateLaws.{after-append, text_ends}
+use Rattle.ciborium_ll_grammar.specs.declared.spelling.Spelling.{Spelling}
+use Rattle.ciborium_ll_grammar.specs.declared.spelling.Spelling.TheVariants.{Any, Shortest}
 use Rattle.ciborium_ll_grammar.specs.declared.hdr.table.TitleKind.TheVariants as k
 use Rattle.ciborium_ll_grammar.specs.Title.{IsTitle, Major, Unsigned, Negative, ByteString, TextString, Other, Size}
 use Rattle.ciborium_ll_grammar.specs.Title.{Small, One, NamesNoTitle, affix_len, major_code, numbered, numbered_header}
@@ -78,28 +80,29 @@ span_says first len text_len l len_is text_len_is =
 
 -- A number below the limit of its size has a title of that size. If no smaller size fits, a strict checker takes that
 -- title.
-numbered_taken : (strict : Bool) (t : List ℕ) (major : Major) (size : Size) (n : ℕ) → t ≡ numbered_title major size n
+numbered_taken : (allowed : Spelling) (t : List ℕ) (major : Major) (size : Size) (n : ℕ)
+    → t ≡ numbered_title major size n
     → n < size_limit size → refused_when_strict (major_code major) (minor_as size n) ≡ false
-    → IsTitle t (numbered_header major size n) × IsTakenTitle strict t (numbered_header major size n)
-numbered_taken false t major size n e fits short = rw e (numbered major size n fits, tt)
-numbered_taken true t major size n e fits short = rw e (numbered major size n fits, taken major size n fits short)
+    → IsTitle t (numbered_header major size n) × IsTakenTitle allowed t (numbered_header major size n)
+numbered_taken Any t major size n e fits short = rw e (numbered major size n fits, tt)
+numbered_taken Shortest t major size n e fits short = rw e (numbered major size n fits, taken major size n fits short)
 
-pub one_taken : (strict : Bool) (b n : ℕ) (major : Major) → b ≡ 32 * major_code major + n → n < 24
-    → IsTitle (b ∷ []) (numbered_header major Small n) × IsTakenTitle strict (b ∷ []) (numbered_header major Small n)
-one_taken strict b n major e small = numbered_taken strict (b ∷ []) major Small n (rw e refl) small refl
+pub one_taken : (allowed : Spelling) (b n : ℕ) (major : Major) → b ≡ 32 * major_code major + n → n < 24
+    → IsTitle (b ∷ []) (numbered_header major Small n) × IsTakenTitle allowed (b ∷ []) (numbered_header major Small n)
+one_taken allowed b n major e small = numbered_taken allowed (b ∷ []) major Small n (rw e refl) small refl
 
 take_two : (xs : List ℕ) → 1 < length xs → take 2 xs ≡ slice_index xs 0 ∷ slice_index xs 1 ∷ []
 take_two xs some = grind (arith, nat_tests)
 
-two_taken : (strict : Bool) (xs : List ℕ) (major : Major) → 1 < length xs
+two_taken : (allowed : Spelling) (xs : List ℕ) (major : Major) → 1 < length xs
     → slice_index xs 0 ≡ 32 * major_code major + 24 → slice_index xs 1 < 256
     → refused_when_strict (major_code major) (minor_as One (slice_index xs 1)) ≡ false
     → IsTitle (take 2 xs) (numbered_header major One (slice_index xs 1))
-    × IsTakenTitle strict (take 2 xs) (numbered_header major One (slice_index xs 1))
-two_taken strict xs major some e fits short =
+    × IsTakenTitle allowed (take 2 xs) (numbered_header major One (slice_index xs 1))
+two_taken allowed xs major some e fits short =
     let same : slice_index xs 1 % 256 ≡ slice_index xs 1 = omega (arith, fits) in
     let parts : take 2 xs ≡ numbered_title major One (slice_index xs 1) = rw (take_two xs some, same, e) refl in
-    numbered_taken strict (take 2 xs) major One (slice_index xs 1) parts fits short
+    numbered_taken allowed (take 2 xs) major One (slice_index xs 1) parts fits short
 
 -- ---- the item of a first byte, by the numbers in the tables
 
@@ -124,69 +127,69 @@ major_of code (inr (inr e)) = record { major = Other; is = sym e; value = refl; 
 
 -- Bytes of the length in the table are a plain item, if a text's body is text. A longer title needs a checker that is
 -- not strict.
-pub span_plain : (xs : List ℕ) (len text_len : ℕ) (strict : Bool) → Below xs → 0 < length xs
-    → IsSpan (slice_index xs 0) len text_len → 0 < len → len ≤ length xs → (24 ≤ slice_index xs 0 % 32 → strict ≡ false)
-    → s.Between ≡ after s.Between (take text_len (drop 1 xs)) → IsPlainItem strict (take len xs)
-span_plain [] len text_len strict below some is least le any text = absurd (omega arith)
-span_plain (b ∷ xs) len text_len strict below some (inl none) least le any text = absurd (omega (arith, none, least))
-span_plain (b ∷ xs) len text_len strict below some (inr (inl v)) least le any text =
+pub span_plain : (xs : List ℕ) (len text_len : ℕ) (allowed : Spelling) → Below xs → 0 < length xs
+    → IsSpan (slice_index xs 0) len text_len → 0 < len → len ≤ length xs → (24 ≤ slice_index xs 0 % 32 → allowed ≡ Any)
+    → s.Between ≡ after s.Between (take text_len (drop 1 xs)) → IsPlainItem allowed (take len xs)
+span_plain [] len text_len allowed below some is least le any text = absurd (omega arith)
+span_plain (b ∷ xs) len text_len allowed below some (inl none) least le any text = absurd (omega (arith, none, least))
+span_plain (b ∷ xs) len text_len allowed below some (inr (inl v)) least le any text =
     let m = major_of (b / 32) v.2 in
-    title_item (b ∷ xs) len strict (numbered_header m.major Small (b % 32)) below least le
-    (λ more. absurd (omega (arith, more, v.0))) (rw v.0 (one_taken strict b (b % 32) m.major (omega arith) v.1))
+    title_item (b ∷ xs) len allowed (numbered_header m.major Small (b % 32)) below least le
+    (λ more. absurd (omega (arith, more, v.0))) (rw v.0 (one_taken allowed b (b % 32) m.major (omega arith) v.1))
     (m.ends (b % 32))
-span_plain (b ∷ xs) len text_len strict below some (inr (inr (inl v))) least le any text =
-    bytes_item (b ∷ xs) 1 (b % 32) len strict below (omega arith) v.0 le (λ more. absurd (omega (arith, more)))
-    (one_taken strict b (b % 32) ByteString (omega (arith, v.2)) v.1)
-span_plain (b ∷ xs) len text_len strict below some (inr (inr (inr (inl v)))) least le any text =
+span_plain (b ∷ xs) len text_len allowed below some (inr (inr (inl v))) least le any text =
+    bytes_item (b ∷ xs) 1 (b % 32) len allowed below (omega arith) v.0 le (λ more. absurd (omega (arith, more)))
+    (one_taken allowed b (b % 32) ByteString (omega (arith, v.2)) v.1)
+span_plain (b ∷ xs) len text_len allowed below some (inr (inr (inr (inl v)))) least le any text =
     let m = major_of (b / 32) v.4 in
     rw (any v.2) (value_item (b ∷ xs) len (kind_of m.major) below m.value (omega (arith, v.0, v.1)) le v.0
     (kind_names m.major (b / 32) (b % 32) m.is (named b v.3)))
-span_plain (b ∷ xs) len text_len strict below some (inr (inr (inr (inr v)))) least le any text =
-    let title = one_taken strict b (b % 32) TextString (omega (arith, v.2)) v.1 in
-    text_item (b ∷ xs) 1 (b % 32) len strict below (omega arith) v.0 le (λ more. absurd (omega (arith, more))) title
+span_plain (b ∷ xs) len text_len allowed below some (inr (inr (inr (inr v)))) least le any text =
+    let title = one_taken allowed b (b % 32) TextString (omega (arith, v.2)) v.1 in
+    text_item (b ∷ xs) 1 (b % 32) len allowed below (omega arith) v.0 le (λ more. absurd (omega (arith, more))) title
     (one_long (b ∷ []) (b % 32) title.0 refl) (rw v.3 at text)
 
 -- A text whose first byte gives its length is a plain item.
-pub short_text : (xs : List ℕ) (len : ℕ) (strict : Bool) → Below xs → 0 < length xs → slice_index xs 0 / 32 ≡ 3
+pub short_text : (xs : List ℕ) (len : ℕ) (allowed : Spelling) → Below xs → 0 < length xs → slice_index xs 0 / 32 ≡ 3
     → slice_index xs 0 % 32 < 24 → len ≡ 1 + slice_index xs 0 % 32 → len ≤ length xs
-    → s.Between ≡ after s.Between (take (len - 1) (drop 1 xs)) → IsPlainItem strict (take len xs)
-short_text xs len strict below some major small is le text =
+    → s.Between ≡ after s.Between (take (len - 1) (drop 1 xs)) → IsPlainItem allowed (take len xs)
+short_text xs len allowed below some major small is le text =
     let body : len - 1 ≡ slice_index xs 0 % 32 = omega (arith, is) in
-    span_plain xs len (slice_index xs 0 % 32) strict below some (inr (inr (inr (inr (is, small, major, refl)))))
+    span_plain xs len (slice_index xs 0 % 32) allowed below some (inr (inr (inr (inr (is, small, major, refl)))))
     (omega (arith, is)) le (λ high. absurd (omega (arith, high, small))) (rw body at text)
 
 -- ---- a string whose length is in the byte after the first
 
-module _ (xs : List ℕ) (len : ℕ) (strict : Bool) (below : Below xs) (some : 1 < length xs)
+module _ (xs : List ℕ) (len : ℕ) (allowed : Spelling) (below : Below xs) (some : 1 < length xs)
     (least : 24 ≤ slice_index xs 1) (e : len ≡ 2 + slice_index xs 1) (le : len ≤ length xs) where
-  pub long_bytes : slice_index xs 0 ≡ 88 → IsPlainItem strict (take len xs)
+  pub long_bytes : slice_index xs 0 ≡ 88 → IsPlainItem allowed (take len xs)
   long_bytes is =
       let known : NamesTitle 2 (slice_index xs 0 / 32) (slice_index xs 0 % 32) =
       (omega (arith, is), named (slice_index xs 0) (omega (arith, is))) in
-      bytes_item xs 2 (slice_index xs 1) len strict below (omega arith) e le
+      bytes_item xs 2 (slice_index xs 1) len allowed below (omega arith) e le
       (λ more d place. record { kind = k.Bytes; is = known; free = (strings_free d place).0 })
-      (two_taken strict xs ByteString some is (below 1 some) (le-ltb (slice_index xs 1) 24 least))
+      (two_taken allowed xs ByteString some is (below 1 some) (le-ltb (slice_index xs 1) 24 least))
 
   pub long_text : slice_index xs 0 ≡ 120 → s.Between ≡ after s.Between (take (len - 2) (drop 2 xs))
-      → IsPlainItem strict (take len xs)
+      → IsPlainItem allowed (take len xs)
   long_text is text =
       let c = slice_index xs 1 in
       let known : NamesTitle 3 (slice_index xs 0 / 32) (slice_index xs 0 % 32) =
       (omega (arith, is), named (slice_index xs 0) (omega (arith, is))) in
       let long : c < 2 ^ 8 = omega (arith, below 1 some) in
       let less : len - 2 ≡ c = omega (arith, e) in
-      text_item xs 2 c len strict below (omega arith) e le
+      text_item xs 2 c len allowed below (omega arith) e le
       (λ more d place. record { kind = k.Text; is = known; free = (strings_free d place).1 })
-      (two_taken strict xs TextString some is (below 1 some) (le-ltb c 24 least))
+      (two_taken allowed xs TextString some is (below 1 some) (le-ltb c 24 least))
       (rw (le-ltb c 24 least, lt-ltb c (2 ^ 8) long) refl) (rw less at text)
 
 -- ---- items one after another
 
 -- One more plain item follows the plain items before.
-pub plain_more : (strict : Bool) (offset first last most left at len : ℕ) (xs : List ℕ) → at ≤ length xs → 0 < left
-    → left ≤ most → ArePlain strict offset first (most - left) last (take at xs)
-    → IsPlainItem strict (take len (drop at xs))
-    → ArePlain strict offset first (most - (left - 1)) (offset + at) (take (at + len) xs)
-plain_more strict offset first last most left at len xs le some fits so_far one =
+pub plain_more : (allowed : Spelling) (offset first last most left at len : ℕ) (xs : List ℕ) → at ≤ length xs → 0 < left
+    → left ≤ most → ArePlain allowed offset first (most - left) last (take at xs)
+    → IsPlainItem allowed (take len (drop at xs))
+    → ArePlain allowed offset first (most - (left - 1)) (offset + at) (take (at + len) xs)
+plain_more allowed offset first last most left at len xs le some fits so_far one =
     let count : suc (most - left) ≡ most - (left - 1) = omega arith in
     rw (take-add at len xs) (rw (count, length-take-le at xs le) at (more so_far one))

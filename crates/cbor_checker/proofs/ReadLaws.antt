@@ -1,11 +1,12 @@
 -- What a checker says of the bytes that it has read.
-use Rattle.std.proofs.Common.{◌≡◌, ℕ, ◌+◌, ◌-◌, ◌<◌, ◌≤◌, ◌^◌, ◌↔◌, Bool, true, false, List, [], ◌∷◌}
+use Rattle.std.proofs.Common.{◌≡◌, ℕ, ◌+◌, ◌-◌, ◌<◌, ◌≤◌, ◌^◌, ◌↔◌, true, false, List, [], ◌∷◌}
 use Rattle.std.proofs.Common.{◌++◌, length, take, drop, refl, sym, ap, subst, ◌∙◌, arith, append-nil, append_assoc}
 use Rattle.std.proofs.Common.{length-append, inl, inr}
 use Rattle.std.proofs.lemmas.Bool.{cases_lt}
 use Rattle.std.proofs.lemmas.List.{take-append-drop, take-append-le, length-take-le}
 use Rattle.std.proofs.Math.Nat.{eq-or-lt_of_le}
 use Rattle.std.proofs.Math.Seq.{take-append-add, take-length}
+use Rattle.ciborium_ll_grammar.specs.declared.spelling.Spelling.{Spelling}
 use Rattle.ciborium_ll_grammar.specs.Items.{IsItem}
 use Rattle.cbor_checker.specs.declared.checker.Checker.{Checker}
 use Rattle.cbor_checker.specs.declared.phase.Phase.{Phase}
@@ -29,7 +30,7 @@ step_due (p.Faulted fault) spot new b step = absurd step
 step_due phase spot new b step = refl
 
 -- After fewer bytes an item goes on.
-fed_before : (s : Bool) (d : ℕ) (fed : List ℕ) (spot : Spot) → IsFed s d fed spot → (len : ℕ)
+fed_before : (s : Spelling) (d : ℕ) (fed : List ℕ) (spot : Spot) → IsFed s d fed spot → (len : ℕ)
     → len < length fed → GoesOn s d (take len fed)
 fed_before s d fed spot fresh len less = absurd (omega (arith, less))
 fed_before s d fed spot (more {bytes = a} {spot = u} b byte is step) len less =
@@ -50,7 +51,7 @@ take_take len taken piece less most =
     sym (take-append-le len (take taken piece) (drop taken piece) long)
     ∙ ap (λ (z : List ℕ). take len z) (take-append-drop taken piece)
 
-pub reads : (s : Bool) (d : ℕ) (read piece : List ℕ) (feed : Feed) (new : Spot) → feed.taken ≤ length piece
+pub reads : (s : Spelling) (d : ℕ) (read piece : List ℕ) (feed : Feed) (new : Spot) → feed.taken ≤ length piece
     → (IsMore feed.progress → feed.taken ≡ length piece) → (feed.progress ≡ r.TooLong → feed.taken < length piece)
     → IsFed s d (read ++ take feed.taken piece) new → Tells s d (read ++ take feed.taken piece) feed.progress
     → length read + feed.taken < 2 ^ 64 → Reads s d read piece feed
@@ -124,14 +125,14 @@ answer_stays progress (r.Fault fault) old new is none same answers = answers ∙
 
 -- ---- each answer comes exactly if it may
 
-pub end_exact : (s : Bool) (d : ℕ) (bytes : List ℕ) (progress : Progress) → Tells s d bytes progress
+pub end_exact : (s : Spelling) (d : ℕ) (bytes : List ℕ) (progress : Progress) → Tells s d bytes progress
     → IsEnd progress ↔ IsItem s d bytes
 end_exact s d bytes (r.More due) tells = (λ is. absurd is, λ item. absurd (tells.0.unended item))
 end_exact s d bytes (r.Ended len) tells = (λ is. tells.0, λ item. tt)
 end_exact s d bytes (r.Fault fault) tells = (λ is. absurd is, λ item. absurd (tells ([], rw append-nil item)))
 end_exact s d bytes r.TooLong tells = (λ is. absurd is, λ item. absurd (tells.0.unended item))
 
-pub none_exact : (s : Bool) (d : ℕ) (bytes : List ℕ) (progress : Progress) → Tells s d bytes progress
+pub none_exact : (s : Spelling) (d : ℕ) (bytes : List ℕ) (progress : Progress) → Tells s d bytes progress
     → IsFault progress ↔ (BeginsItem s d bytes → ⊥)
 none_exact s d bytes (r.More due) tells = (λ is. absurd is, λ none. none tells.0.begins)
 none_exact s d bytes (r.Ended len) tells = (λ is. absurd is, λ none. none ([], rw append-nil tells.0))
@@ -140,7 +141,7 @@ none_exact s d bytes r.TooLong tells = (λ is. absurd is, λ none. none tells.0.
 
 -- ---- pieces are joined
 
-module _ (s : Bool) (d : ℕ) (read one two : List ℕ) where
+module _ (s : Spelling) (d : ℕ) (read one two : List ℕ) where
   -- The first piece is taken whole.
   pub joined : (first second all : Feed) → Reads s d read one first → first.taken ≡ length one
       → Reads s d (read ++ one) two second → all.taken ≡ length one + second.taken → all.progress ≡ second.progress
@@ -181,7 +182,7 @@ module _ (s : Bool) (d : ℕ) (read one two : List ℕ) where
 
 -- ---- the same bytes, the same answer
 
-pub one_answer : (s : Bool) (d : ℕ) (read : List ℕ) (one other : Checker) (first second : Progress)
+pub one_answer : (s : Spelling) (d : ℕ) (read : List ℕ) (one other : Checker) (first second : Progress)
     → HasRead s d read one → HasRead s d read other → Answers one first → Answers other second → first ≡ second
 unfolding HasRead Answers
 one_answer s d read one other first second is so says tells =

@@ -40,7 +40,7 @@ lowered_same level count e = grind (arith, nat_tests)
 -- ---- the spot after the items
 
 run_leads : (s : Spot) (rest : List Level) (level : Level) (all count left last : ℕ) (bytes : List ℕ)
-    → counted_behind level ≡ Some all → ArePlain s.strict s.offset s.place count last bytes
+    → counted_behind level ≡ Some all → ArePlain s.allowed s.offset s.place count last bytes
     → Leads (record (due s) { levels = lowered (count + left) level ∷ rest }) bytes
     (record (due s) { levels = lowered left level ∷ rest; place = last; offset = s.offset + length bytes })
 run_leads s rest level all zero left last bytes is none = rw (zero-add left, add-zero s.offset) stay
@@ -76,7 +76,7 @@ module _ (s : Spot) (level : Level) (left : ℕ) (at : s.phase ≡ p.Title) (cle
 
   -- After some of the items, another item is due in the nest.
   pub run_goes : (last : ℕ) (bytes : List ℕ) (behind : ℕ) → 0 < behind → behind ≤ left + 1
-      → ArePlain s.strict s.offset s.place (left + 1 - behind) last bytes
+      → ArePlain s.allowed s.offset s.place (left + 1 - behind) last bytes
       → Leads s bytes (moved s.depth (lowered (behind - 1) level ∷ others s.levels) last (s.offset + length bytes) s)
   run_goes last bytes behind some fits plain =
       from_stack (left + 1 - behind + (behind - 1))
@@ -85,7 +85,7 @@ module _ (s : Spot) (level : Level) (left : ℕ) (at : s.phase ≡ p.Title) (cle
 
   -- After all items, the nest is done.
   pub run_ends : (last : ℕ) (bytes : List ℕ) (count : ℕ) → count ≡ suc left
-      → ArePlain s.strict s.offset s.place count last bytes
+      → ArePlain s.allowed s.offset s.place count last bytes
       → Leads s bytes (item_done (moved (s.depth + 1) (others s.levels) last (s.offset + length bytes) s))
   run_ends last bytes zero e plain = absurd (omega arith)
   run_ends last bytes (suc count) e (more {last = place} {bytes = xs} {item = item} so_far one) =
@@ -111,7 +111,7 @@ title_enters : (b n : ℕ) (major : Major) (inner level : Level) → b ≡ 32 * 
     → ((u : Spot) → item_entered (numbered_header major Small n) u ≡ nested u.depth inner u) → IsNestTitle b level
 title_enters b n major inner level e small byte left enters = λ s at clear none deep.
     let header = numbered_header major Small n in
-    let title = one_taken s.strict b n major e small in
+    let title = one_taken s.allowed b n major e small in
     let u : Spot = record (due s) { place = s.offset; offset = s.offset + 1 } in
     let new = nested_goes u _ inner level (λ zero. omega (arith, zero, deep)) left refl ∙ sym (enters u) in
     from_due s at clear none (λ (z : Spot). item_due (z.depth - 1) (level ∷ z.levels) (passed 1 z))
@@ -157,7 +157,7 @@ module _ (s : Spot) (level : Level) (left last len : ℕ) (xs : List ℕ) (at : 
 
   -- After some of the items, another item is due in the nest.
   pub nest_goes : 0 < length xs → (behind : ℕ) → 0 < behind → behind ≤ left + 1
-      → ArePlain s.strict (s.offset + 1) s.offset (left + 1 - behind) last items → Leads s (take (1 + len) xs)
+      → ArePlain s.allowed (s.offset + 1) s.offset (left + 1 - behind) last items → Leads s (take (1 + len) xs)
       (moved (s.depth - 1) (lowered (behind - 1) level ∷ s.levels) last (s.offset + 1 + len) s)
   nest_goes some behind due_more fits plain =
       leads_in some (λ z. moved (z.depth - 1) (lowered (behind - 1) level ∷ z.levels) last (z.offset + 1 + len) z)
@@ -165,7 +165,7 @@ module _ (s : Spot) (level : Level) (left last len : ℕ) (xs : List ℕ) (at : 
 
   -- After all items, the nest is done.
   pub nest_ends : 0 < length xs → (count : ℕ) → count ≡ suc left
-      → ArePlain s.strict (s.offset + 1) s.offset count last items
+      → ArePlain s.allowed (s.offset + 1) s.offset count last items
       → Leads s (take (1 + len) xs) (item_done (record s { place = last; offset = s.offset + 1 + len }))
   nest_ends some count counts plain =
       let given_back : s.depth - 1 + 1 ≡ s.depth = omega (arith, deep) in

@@ -1,5 +1,6 @@
 -- The state that plain numbers hold.
-use Rattle.std.proofs.Common.{◌≡◌, ◌∙◌, ℕ, Bool, List, sym, ap}
+use Rattle.ciborium_ll_grammar.specs.declared.spelling.Spelling.{Spelling}
+use Rattle.std.proofs.Common.{◌≡◌, ◌∙◌, ℕ, List, sym, ap}
 use Rattle.cbor_checker.specs.declared.checker.Checker.{Checker}
 use Rattle.cbor_checker.specs.declared.level.Level.{Level}
 use Rattle.cbor_checker.specs.declared.phase.Phase.{Phase}
@@ -12,9 +13,9 @@ use Rattle.cbor_checker.specs.Snapshots.{Holds}
 use Rattle.cbor_checker.specs.Spots.{Spot}
 use Rattle.cbor_checker.specs.Telling.{end_of, progress_of}
 
-abbrev at_parts : Bool → Phase → List ℕ → Within → ℕ → List Level → ℕ → ℕ → Spot
-at_parts strict phase front within depth levels place offset = record {
-  strict = strict;
+abbrev at_parts : Spelling → Phase → List ℕ → Within → ℕ → List Level → ℕ → ℕ → Spot
+at_parts allowed phase front within depth levels place offset = record {
+  allowed = allowed;
   phase = phase;
   front = front;
   within = within;
@@ -27,7 +28,7 @@ at_parts strict phase front within depth levels place offset = record {
 -- The same numbers hold one spot.
 pub one_held : (snapshot : Snapshot) (one other : Spot) → Holds snapshot one → Holds snapshot other → one ≡ other
 one_held snapshot one other a b =
-    let strict : one.strict ≡ other.strict = let same = sym a.strict ∙ b.strict in cc in
+    let allowed : one.allowed ≡ other.allowed = let same = sym a.allowed ∙ b.allowed in cc in
     let phase : one.phase ≡ other.phase = let same = sym a.phase ∙ b.phase in cc in
     let front : one.front ≡ other.front = sym a.title ∙ b.title in
     let within : one.within ≡ other.within = let same = sym a.within ∙ b.within in cc in
@@ -35,8 +36,8 @@ one_held snapshot one other a b =
     let levels : one.levels ≡ other.levels = let same = sym a.levels ∙ b.levels in cc in
     let place : one.place ≡ other.place = sym a.place ∙ b.place in
     let offset : one.offset ≡ other.offset = sym a.offset ∙ b.offset in
-    let same : at_parts one.strict one.phase one.front one.within one.depth one.levels one.place one.offset
-    ≡ at_parts other.strict other.phase other.front other.within other.depth other.levels other.place other.offset =
+    let same : at_parts one.allowed one.phase one.front one.within one.depth one.levels one.place one.offset
+    ≡ at_parts other.allowed other.phase other.front other.within other.depth other.levels other.place other.offset =
     cc in
     same
 

@@ -2,6 +2,7 @@
 use Rattle.std.proofs.Common.{◌≡◌, ℕ, zero, suc, Bool, true, false, List, [], ◌∷◌, ◌++◌, length, None, refl, sym, ap}
 use Rattle.std.proofs.Common.{subst, ◌∙◌, inl, inr, arith, append_assoc, append-nil}
 use Rattle.std.proofs.lemmas.Bool.Decides.{nat_tests}
+use Rattle.ciborium_ll_grammar.specs.declared.spelling.Spelling.{Spelling}
 use Rattle.ciborium_ll_grammar.specs.declared.hdr.Header.{Header}
 use Rattle.ciborium_ll_grammar.specs.declared.hdr.Header.TheVariants as h
 use Rattle.ciborium_ll_grammar.specs.Title.{IsTitle, IsCutTitle}
@@ -31,7 +32,7 @@ use Rattle.cbor_checker.proofs.TitleDueLaws.{title_enters}
 -- ---- if a title is due, a title comes
 
 -- The bytes begin with a title that is taken.
-pub record Titled (s : Bool) (y : List ℕ) : Type 0 where
+pub record Titled (s : Spelling) (y : List ℕ) : Type 0 where
   pub title : List ℕ
   pub header : Header
   pub rest : List ℕ
@@ -39,29 +40,29 @@ pub record Titled (s : Bool) (y : List ℕ) : Type 0 where
   pub taken : IsTakenTitle s title header
   pub is : y ≡ title ++ rest
 
-item_titled : (s : Bool) (d : ℕ) (item rest y : List ℕ) → IsItem s d item → y ≡ item ++ rest → Titled s y
+item_titled : (s : Spelling) (d : ℕ) (item rest y : List ℕ) → IsItem s d item → y ≡ item ++ rest → Titled s y
 item_titled s d item rest y (more_items {title = t} {rest = r} q g c no_items) e =
     let is = e ∙ append_assoc t (r ++ []) rest in search
 
 -- Any checker takes the title `ff` of a break.
-break_taken : (s : Bool) → IsTakenTitle s (0xff ∷ []) h.Break
+break_taken : (s : Spelling) → IsTakenTitle s (0xff ∷ []) h.Break
 break_taken s = grind (arith, nat_tests)
 
-break_titled : (s : Bool) (rest y : List ℕ) → y ≡ 0xff ∷ rest → Titled s y
+break_titled : (s : Spelling) (rest y : List ℕ) → y ≡ 0xff ∷ rest → Titled s y
 break_titled s rest y e =
     record { title = 0xff ∷ []; header = h.Break; rest = rest; is_title = break_title; taken = break_taken s; is = e }
 
-first_titled : (s : Bool) (k : Kind) (Then : List ℕ → Type 0) (y : List ℕ) → First s k Then y → Titled s y
+first_titled : (s : Spelling) (k : Kind) (Then : List ℕ → Type 0) (y : List ℕ) → First s k Then y → Titled s y
 first_titled s k Then y (breaks rest behind e) = break_titled s rest y e
 first_titled s k Then y (whole_string t b far q g sound behind e) = search
 first_titled s k Then y (opens t far any q behind e) =
     record { title = t; header = kind_header k None; rest = far; is_title = q; taken = rw any tt; is = e }
 
-breaks_titled : (s : Bool) (d : ℕ) (levels : List Level) (y : List ℕ) → Breaks s d levels y → Titled s y
+breaks_titled : (s : Spelling) (d : ℕ) (levels : List Level) (y : List ℕ) → Breaks s d levels y → Titled s y
 breaks_titled s d (level ∷ levels) y o = break_titled s o.rest y o.is
 breaks_titled s d [] y o = absurd o
 
-pub due_titled : (s : Bool) (i : Within) (d : ℕ) (levels : List Level) (y : List ℕ) → TitleDue s i d levels y
+pub due_titled : (s : Spelling) (i : Within) (d : ℕ) (levels : List Level) (y : List ℕ) → TitleDue s i d levels y
     → Titled s y
 due_titled s w.Nothing d levels y (inl o) = item_titled s d o.item o.rest y o.is_item o.is
 due_titled s w.Nothing d levels y (inr o) = breaks_titled s d levels y o
@@ -77,7 +78,7 @@ itself A = (λ a. a, λ a. a)
 module _ (spot : Spot) (fault : Fault) (is_cut : IsCutTitle spot.front)
     (all : (behind : List ℕ) (x : Header) → IsTitle (spot.front ++ behind) x
     → (titled x spot).phase ≡ p.Faulted fault) where
-  early_none : (y : List ℕ) → TitleDue spot.strict spot.within spot.depth spot.levels (spot.front ++ y) → ⊥
+  early_none : (y : List ℕ) → TitleDue spot.allowed spot.within spot.depth spot.levels (spot.front ++ y) → ⊥
   early_none y due =
       let o = due_titled _ spot.within _ spot.levels _ due in
       elim (cases_lt (length o.title) (length spot.front)) [
@@ -94,7 +95,7 @@ module _ (spot : Spot) (fault : Fault) (is_cut : IsCutTitle spot.front)
       ]
 
 title_same : (spot new : Spot) → TitleStep spot new → spot.phase ≡ p.Title → (y : List ℕ)
-    → Same (TitleDue spot.strict spot.within spot.depth spot.levels (spot.front ++ y)) (Waits new y)
+    → Same (TitleDue spot.allowed spot.within spot.depth spot.levels (spot.front ++ y)) (Waits new y)
 title_same spot new (cut c some may) at y = rw at (itself _)
 title_same spot new (early fault c some all) at y = (λ due. early_none spot fault c all y due, λ no. absurd no)
 title_same spot new (whole x q g) at y =
@@ -126,7 +127,7 @@ body_same left Sound Then b y = (
 
 text_left_same : (m : Bool) (left : ℕ) (state : State) (spot : Spot) (y : List ℕ) → spot.front ≡ []
     → may_end state left ≡ m
-    → Same (BodyThen left (TextBody state) (StringDone spot.strict spot.within spot.depth spot.levels) y)
+    → Same (BodyThen left (TextBody state) (StringDone spot.allowed spot.within spot.depth spot.levels) y)
     (Waits (text_left m left state spot) y)
 text_left_same false left state spot y clear e = (
   λ o. let may = text_may_end state o.body o.sound in let no = sym e ∙ (rw o.long at may) in absurd cc,
@@ -154,7 +155,7 @@ step_same phase spot new b at step y = absurd step
 
 -- ---- all bytes so far
 
-fresh_same : (s : Bool) (d : ℕ) (y : List ℕ) → Same (IsItem s d y) (Waits (start s d) y)
+fresh_same : (s : Spelling) (d : ℕ) (y : List ℕ) → Same (IsItem s d y) (Waits (start s d) y)
 fresh_same s d y = (
   λ i. inl (record { item = y; rest = []; is_item = i; behind = refl; is = sym (append-nil y) }),
   λ due. elim due [
@@ -165,7 +166,7 @@ fresh_same s d y = (
 )
 
 -- The bytes that complete the item of all bytes so far are those that the spot waits for.
-pub fed_same : (s : Bool) (d : ℕ) (fed : List ℕ) (spot : Spot) → IsFed s d fed spot → (y : List ℕ)
+pub fed_same : (s : Spelling) (d : ℕ) (fed : List ℕ) (spot : Spot) → IsFed s d fed spot → (y : List ℕ)
     → Same (IsItem s d (fed ++ y)) (Waits spot y)
 fed_same s d fed spot fresh y = fresh_same s d y
 fed_same s d fed spot (more {bytes = a} {spot = before} b byte is step) y =

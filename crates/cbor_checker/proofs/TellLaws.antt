@@ -1,7 +1,8 @@
 -- The meaning of a checker's answer for the bytes so far.
-use Rattle.std.proofs.Common.{◌≡◌, ℕ, zero, suc, ◌+◌, ◌%◌, ◌≤◌, Bool, true, List, [], ◌∷◌, ◌++◌, length, slice_index}
+use Rattle.std.proofs.Common.{◌≡◌, ℕ, zero, suc, ◌+◌, ◌%◌, ◌≤◌, true, List, [], ◌∷◌, ◌++◌, length, slice_index}
 use Rattle.std.proofs.Common.{refl, sym, ap, subst, ◌∙◌, arith, append-nil, length-append}
 use Rattle.std.proofs.lemmas.Bool.Decides.{nat_tests}
+use Rattle.ciborium_ll_grammar.specs.declared.spelling.Spelling.{Spelling}
 use Rattle.ciborium_ll_grammar.specs.Title.{affix_len}
 use Rattle.ciborium_ll_grammar.specs.Items.{IsItem}
 use Rattle.ciborium_ll_grammar.proofs.AffixLaws.{announced}
@@ -22,7 +23,7 @@ use Rattle.cbor_checker.proofs.StepLaws.{Titled, due_titled, fed_same}
 
 -- ---- bytes fed one by one
 
-pub fed_fresh : (s : Bool) (d : ℕ) (spot : Spot) → spot ≡ start s d → IsFed s d [] spot
+pub fed_fresh : (s : Spelling) (d : ℕ) (spot : Spot) → spot ≡ start s d → IsFed s d [] spot
 fed_fresh s d spot e = subst (IsFed s d []) (sym e) fresh
 
 -- ---- each byte is counted
@@ -35,7 +36,7 @@ pub step_counts : (phase : Phase) (spot new : Spot) (b : ℕ) → StepIn phase s
 step_counts p.Title spot new b step = title_counts (with_byte b spot) new step
 step_counts phase spot new b step = grind (arith, nat_tests, bytes_kept, left_kept)
 
-pub fed_counts : (s : Bool) (d : ℕ) (fed : List ℕ) (spot : Spot) → IsFed s d fed spot → spot.offset ≡ length fed
+pub fed_counts : (s : Spelling) (d : ℕ) (fed : List ℕ) (spot : Spot) → IsFed s d fed spot → spot.offset ≡ length fed
 fed_counts s d fed spot fresh = refl
 fed_counts s d fed spot (more {bytes = a} {spot = before} b byte is step) =
     let so_far = fed_counts s d a before is in
@@ -51,7 +52,7 @@ due_unended phase due has = has
 due_sound : (phase : Phase) → is_due phase ≡ true → (fault : Fault) → phase ≡ p.Faulted fault → ⊥
 due_sound phase due fault is = let both = sym due ∙ ap is_due is in cc
 
-pub goes_on : (s : Bool) (d : ℕ) (fed : List ℕ) (spot : Spot) → IsFed s d fed spot → is_due spot.phase ≡ true
+pub goes_on : (s : Spelling) (d : ℕ) (fed : List ℕ) (spot : Spot) → IsFed s d fed spot → is_due spot.phase ≡ true
     → GoesOn s d fed
 goes_on s d fed spot is due = record {
   begins = fed_goes s d fed spot is (due_sound spot.phase due);
@@ -71,7 +72,7 @@ title_least (b ∷ front) y rest t affix byte e is long =
     let heads : byte ≡ b = cc in
     omega (arith, whole, some, rw heads at long, length-append t rest, length-append front y)
 
-due_by : (spot : Spot) (y : List ℕ) → Titled spot.strict (spot.front ++ y) → title_due spot.front ≤ length y
+due_by : (spot : Spot) (y : List ℕ) → Titled spot.allowed (spot.front ++ y) → title_due spot.front ≤ length y
 due_by spot y o =
     let a = announced o.title o.header o.is_title in
     title_least spot.front y o.rest o.title a.affix a.byte o.is a.is a.long
@@ -82,7 +83,7 @@ title_lacks front short = grind (arith, nat_tests)
 body_by : {len : ℕ} {P Then : List ℕ → Type 0} {y : List ℕ} → BodyThen len P Then y → len ≤ length y
 body_by o = let whole = ap length o.is in omega (arith, o.long, whole, length-append o.body o.rest)
 
-more_tells : (s : Bool) (d : ℕ) (fed : List ℕ) (due : ℕ) → 1 ≤ due → BeginsItem s d fed → LacksAtLeast s d fed due
+more_tells : (s : Spelling) (d : ℕ) (fed : List ℕ) (due : ℕ) → 1 ≤ due → BeginsItem s d fed → LacksAtLeast s d fed due
     → Tells s d fed (r.More due)
 more_tells s d fed due some begins least = (
   record { begins = begins; unended = λ item. omega (arith, some, least [] (rw append-nil item)) },
@@ -90,7 +91,7 @@ more_tells s d fed due some begins least = (
   least,
 )
 
-tells_in : (phase : Phase) (s : Bool) (d : ℕ) (fed : List ℕ) (spot : Spot) → phase ≡ spot.phase → IsFed s d fed spot
+tells_in : (phase : Phase) (s : Spelling) (d : ℕ) (fed : List ℕ) (spot : Spot) → phase ≡ spot.phase → IsFed s d fed spot
     → ((y : List ℕ) → IsItem s d (fed ++ y) → WaitsIn phase spot y) → has_left phase ≡ true
     → length spot.front ≤ affix_len (slice_index spot.front 0 % 32) → Tells s d fed (progress_in phase spot)
 tells_in p.Title s d fed spot e is waits left short =
@@ -110,13 +111,13 @@ tells_in p.Ended s d fed spot e is waits left short =
     (rw append-nil at item, fed_counts s d fed spot is)
 tells_in (p.Faulted fault) s d fed spot e is waits left short = λ begins. waits begins.0 begins.1
 
-pub tells : (s : Bool) (d : ℕ) (fed : List ℕ) (spot : Spot) → IsFed s d fed spot → has_left spot.phase ≡ true
+pub tells : (s : Spelling) (d : ℕ) (fed : List ℕ) (spot : Spot) → IsFed s d fed spot → has_left spot.phase ≡ true
     → length spot.front ≤ affix_len (slice_index spot.front 0 % 32) → Tells s d fed (progress_of spot)
 tells s d fed spot is left short =
     tells_in spot.phase s d fed spot refl is (λ y i. (fed_same s d fed spot is y).0 i) left short
 
 -- An answer that is the answer of the spot has the same meaning.
-pub told : (s : Bool) (d : ℕ) (fed : List ℕ) (spot : Spot) (progress : Progress) → progress ≡ progress_of spot
+pub told : (s : Spelling) (d : ℕ) (fed : List ℕ) (spot : Spot) (progress : Progress) → progress ≡ progress_of spot
     → IsFed s d fed spot → has_left spot.phase ≡ true
     → length spot.front ≤ affix_len (slice_index spot.front 0 % 32) → Tells s d fed progress
 told s d fed spot progress e is left short = subst (Tells s d fed) (sym e) (tells s d fed spot is left short)

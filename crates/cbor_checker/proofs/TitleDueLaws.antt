@@ -1,6 +1,8 @@
 -- The bytes that are due after a whole title, wherever it stands.
-use Rattle.std.proofs.Common.{◌≡◌, ℕ, zero, suc, Bool, false, List, [], ◌∷◌, ◌++◌, length, Some, None, arith, refl}
+use Rattle.std.proofs.Common.{◌≡◌, ℕ, zero, suc, List, [], ◌∷◌, ◌++◌, length, Some, None, arith, refl}
 use Rattle.std.proofs.lemmas.Bool.Decides.{nat_tests}
+use Rattle.ciborium_ll_grammar.specs.declared.spelling.Spelling.{Spelling}
+use Rattle.ciborium_ll_grammar.specs.declared.spelling.Spelling.TheVariants.{Any}
 use Rattle.ciborium_ll_grammar.specs.declared.hdr.Header.{Header}
 use Rattle.ciborium_ll_grammar.specs.declared.hdr.Header.TheVariants as h
 use Rattle.ciborium_ll_grammar.specs.Title.{IsTitle}
@@ -35,7 +37,7 @@ kind_entered Text header more spot = text_entered header more spot
 
 kind_enters : (k : Kind) (n len : ℕ) (spot : Spot)
     → (kind_entered k (kind_header k (Some len)) n spot ≡ kind_due k len spot)
-    × (kind_entered k (kind_header k None) n spot ≡ open_entered spot.strict (kind_within k (suc n)) spot)
+    × (kind_entered k (kind_header k None) n spot ≡ open_entered spot.allowed (kind_within k (suc n)) spot)
     × (kind_entered k h.Break n spot ≡ string_closed (kind_within k) n spot)
 kind_enters k n len spot = grind (arith, nat_tests)
 
@@ -44,8 +46,8 @@ itself A = (λ a. a, λ a. a)
 
 -- If only the shortest spelling is taken, no bytes follow an open within an open string. Otherwise the spot waits for
 -- those of `string_open`.
-opened : (s : Bool) (i : Within) (spot : Spot) (y : List ℕ)
-    → Same ((s ≡ false) × Waits (string_open i spot) y) (Waits (open_entered s i spot) y)
+opened : (s : Spelling) (i : Within) (spot : Spot) (y : List ℕ)
+    → Same ((s ≡ Any) × Waits (string_open i spot) y) (Waits (open_entered s i spot) y)
 opened s i spot y = grind (arith, nat_tests)
 
 sound_as : {len : ℕ} {P Q Then : List ℕ → Type 0} {y : List ℕ} → BodyThen len P Then y → ((b : List ℕ) → P b → Q b)
@@ -55,18 +57,18 @@ sound_as b f =
 
 -- The bytes that are due after strings that are open within others, and after a body.
 module _ (spot : Spot) (y : List ℕ) (clear : spot.front ≡ []) where
-  open_same : (k : Kind) (n : ℕ) → Same (EndsStrings spot.strict k n (Ends spot.strict spot.depth spot.levels) y)
+  open_same : (k : Kind) (n : ℕ) → Same (EndsStrings spot.allowed k n (Ends spot.allowed spot.depth spot.levels) y)
       (Waits (string_open (kind_within k n) spot) y)
   open_same Bytes n = rw clear (itself _)
   open_same Text n = rw clear (itself _)
 
-  closes : (k : Kind) (n : ℕ) → Same (Behind spot.strict k n (Ends spot.strict spot.depth spot.levels) y)
+  closes : (k : Kind) (n : ℕ) → Same (Behind spot.allowed k n (Ends spot.allowed spot.depth spot.levels) y)
       (Waits (string_closed (kind_within k) n spot) y)
   closes k zero = settles spot.levels spot.depth spot y clear
   closes k (suc n) = open_same k n
 
   body_same : (k : Kind) (n len : ℕ) → spot.within ≡ kind_within k n
-      → Same (BodyThen len (IsWritable k) (EndsStrings spot.strict k n (Ends spot.strict spot.depth spot.levels)) y)
+      → Same (BodyThen len (IsWritable k) (EndsStrings spot.allowed k n (Ends spot.allowed spot.depth spot.levels)) y)
       (Waits (kind_due k len spot) y)
   body_same Bytes n len inside =
       let same = bytes_body len spot y clear in (λ b. same.0 (rw inside b), λ waits. rw inside at (same.1 waits))
@@ -82,9 +84,9 @@ module _ (k : Kind) (n : ℕ) (spot : Spot) (y : List ℕ) (clear : spot.front �
     (inside : spot.within ≡ kind_within k n)
     (t : List ℕ) where
   abbrev Inner : List ℕ → Type 0
-  Inner = Behind spot.strict k n (Ends spot.strict spot.depth spot.levels)
+  Inner = Behind spot.allowed k n (Ends spot.allowed spot.depth spot.levels)
 
-  string_on : (x : Header) → IsTitle t x → First spot.strict k Inner (t ++ y) → Waits (kind_entered k x n spot) y
+  string_on : (x : Header) → IsTitle t x → First spot.allowed k Inner (t ++ y) → Waits (kind_entered k x n spot) y
   string_on x p (breaks rest behind e) =
       let o = one_title t (0xff ∷ []) y rest x h.Break p break_title e in
       rw (o.1, (kind_enters k n 0 spot).2) ((closes spot y clear k n).0 (rw o.2 behind))
@@ -98,8 +100,8 @@ module _ (k : Kind) (n : ℕ) (spot : Spot) (y : List ℕ) (clear : spot.front �
       rw (o.1, (kind_enters k n 0 spot).1) ((opened _ (kind_within k (suc n)) spot y).0 (any, inner))
 
 string_off : (k : Kind) (n : ℕ) (spot : Spot) (t y : List ℕ) (x : Header) → spot.front ≡ []
-    → spot.within ≡ kind_within k n → IsTitle t x → IsTakenTitle spot.strict t x → Waits (kind_entered k x n spot) y
-    → EndsStrings spot.strict k n (Ends spot.strict spot.depth spot.levels) (t ++ y)
+    → spot.within ≡ kind_within k n → IsTitle t x → IsTakenTitle spot.allowed t x → Waits (kind_entered k x n spot) y
+    → EndsStrings spot.allowed k n (Ends spot.allowed spot.depth spot.levels) (t ++ y)
 string_off Bytes n spot t y (h.Bytes (Some len)) clear inside p g waits =
     body_back _ Bytes _ t y len p g ((body_same spot y clear Bytes n len inside).1 waits)
 string_off Bytes n spot t y (h.Bytes None) clear inside p g waits =
@@ -118,11 +120,11 @@ string_off Text n spot t y h.Break clear inside p g waits =
 string_off Text n spot t y x clear inside p g waits = absurd waits
 
 string_title : (k : Kind) (n : ℕ) (spot : Spot) (t y : List ℕ) (x : Header) → spot.front ≡ []
-    → spot.within ≡ kind_within k n → IsTitle t x → IsTakenTitle spot.strict t x
-    → Same (EndsStrings spot.strict k n (Ends spot.strict spot.depth spot.levels) (t ++ y))
+    → spot.within ≡ kind_within k n → IsTitle t x → IsTakenTitle spot.allowed t x
+    → Same (EndsStrings spot.allowed k n (Ends spot.allowed spot.depth spot.levels) (t ++ y))
     (Waits (kind_entered k x n spot) y)
 string_title k n spot t y x clear inside p g = (
-  λ o. string_on k n spot y clear inside t x p (first_of spot.strict k _ (t ++ y) o),
+  λ o. string_on k n spot y clear inside t x p (first_of spot.allowed k _ (t ++ y) o),
   string_off k n spot t y x clear inside p g,
 )
 
@@ -130,8 +132,8 @@ string_title k n spot t y x clear inside p g = (
 
 -- After a title that is taken, the spot waits for the rest of the bytes that were due.
 pub title_enters : (i : Within) (spot : Spot) (t y : List ℕ) (x : Header) → spot.front ≡ [] → spot.within ≡ i
-    → IsTitle t x → IsTakenTitle spot.strict t x
-    → Same (TitleDue spot.strict i spot.depth spot.levels (t ++ y)) (Waits (entered i x spot) y)
+    → IsTitle t x → IsTakenTitle spot.allowed t x
+    → Same (TitleDue spot.allowed i spot.depth spot.levels (t ++ y)) (Waits (entered i x spot) y)
 title_enters w.Nothing spot t y x clear inside p g =
     (λ o. enters spot clear inside t y x p o, λ waits. entered_back spot clear inside t y x p g waits)
 title_enters (w.Bytes n) spot t y x clear inside p g = string_title Bytes n spot t y x clear inside p g

@@ -1,5 +1,6 @@
 -- The bytes after a spot that make a whole item of all.
-use Rattle.std.proofs.Common.{◌≡◌, ℕ, zero, suc, ◌*◌, ◌⊎◌, Bool, true, List, [], ◌∷◌, ◌++◌, length}
+use Rattle.std.proofs.Common.{◌≡◌, ℕ, zero, suc, ◌*◌, ◌⊎◌, true, List, [], ◌∷◌, ◌++◌, length}
+use Rattle.ciborium_ll_grammar.specs.declared.spelling.Spelling.{Spelling}
 use Rattle.ciborium_ll_grammar.specs.Items.{AreItems, AreTakenStrings, IsItem}
 use Rattle.ciborium_ll_grammar.specs.Strings.{Kind, Bytes, Text, AreStrings}
 use Rattle.ciborium_ll_grammar.specs.Elements.{AreWritable}
@@ -25,27 +26,27 @@ Takes l.OpenPairs count end = ((pairs : ℕ) × (count ≡ 2 * pairs)) × (end �
 Takes l.OpenValue count end = ((pairs : ℕ) × (count ≡ suc (2 * pairs))) × (end ≡ 0xff ∷ [])
 
 -- The bytes end the level, and then come bytes with the property `Then`.
-pub record EndsLevel (strict : Bool) (level : Level) (depth : ℕ) (Then : List ℕ
+pub record EndsLevel (allowed : Spelling) (level : Level) (depth : ℕ) (Then : List ℕ
     → Type 0) (bytes : List ℕ) : Type 0 where
   pub count : ℕ
   pub items : List ℕ
   pub end : List ℕ
   pub rest : List ℕ
   pub takes : Takes level count end
-  pub are_items : AreItems strict depth count items
+  pub are_items : AreItems allowed depth count items
   pub behind : Then rest
   pub is : bytes ≡ items ++ (end ++ rest)
 
 -- The bytes end all levels.
-abbrev pub Ends : Bool → ℕ → List Level → List ℕ → Type 0
-Ends strict depth [] bytes = bytes ≡ []
-Ends strict depth (level ∷ levels) bytes = EndsLevel strict level depth (Ends strict (suc depth) levels) bytes
+abbrev pub Ends : Spelling → ℕ → List Level → List ℕ → Type 0
+Ends allowed depth [] bytes = bytes ≡ []
+Ends allowed depth (level ∷ levels) bytes = EndsLevel allowed level depth (Ends allowed (suc depth) levels) bytes
 
 -- The bytes are an item, and then come bytes with the property `Then`.
-pub record ItemThen (strict : Bool) (depth : ℕ) (Then : List ℕ → Type 0) (bytes : List ℕ) : Type 0 where
+pub record ItemThen (allowed : Spelling) (depth : ℕ) (Then : List ℕ → Type 0) (bytes : List ℕ) : Type 0 where
   pub item : List ℕ
   pub rest : List ℕ
-  pub is_item : IsItem strict depth item
+  pub is_item : IsItem allowed depth item
   pub behind : Then rest
   pub is : bytes ≡ item ++ rest
 
@@ -56,47 +57,47 @@ pub record BreakThen (level : Level) (Then : List ℕ → Type 0) (bytes : List 
   pub behind : Then rest
   pub is : bytes ≡ 0xff ∷ rest
 
-abbrev pub Breaks : Bool → ℕ → List Level → List ℕ → Type 0
-Breaks strict depth [] bytes = ⊥
-Breaks strict depth (level ∷ levels) bytes = BreakThen level (Ends strict (suc depth) levels) bytes
+abbrev pub Breaks : Spelling → ℕ → List Level → List ℕ → Type 0
+Breaks allowed depth [] bytes = ⊥
+Breaks allowed depth (level ∷ levels) bytes = BreakThen level (Ends allowed (suc depth) levels) bytes
 
 -- The bytes that are due if an item is due: an item, or a break in its place.
-abbrev pub ItemDue : Bool → ℕ → List Level → List ℕ → Type 0
-ItemDue strict depth levels bytes = ItemThen strict depth
-    (Ends strict depth levels) bytes ⊎ Breaks strict depth levels bytes
+abbrev pub ItemDue : Spelling → ℕ → List Level → List ℕ → Type 0
+ItemDue allowed depth levels bytes = ItemThen allowed depth
+    (Ends allowed depth levels) bytes ⊎ Breaks allowed depth levels bytes
 
 -- The bytes end an open string, and then come bytes with the property `Then`.
-pub record EndsString (strict : Bool) (kind : Kind) (Then : List ℕ → Type 0) (bytes : List ℕ) : Type 0 where
+pub record EndsString (allowed : Spelling) (kind : Kind) (Then : List ℕ → Type 0) (bytes : List ℕ) : Type 0 where
   pub strings : List ℕ
   pub bodies : List (List ℕ)
   pub rest : List ℕ
   pub are : AreStrings kind strings bodies
-  pub taken : AreTakenStrings strict kind strings bodies
+  pub taken : AreTakenStrings allowed kind strings bodies
   pub sound : AreWritable kind bodies
   pub behind : Then rest
   pub is : bytes ≡ strings ++ 0xff ∷ rest
 
 -- The bytes after the innermost open string: they end this many more open strings, and then come bytes with the
 -- property `Then`.
-abbrev pub Behind : Bool → Kind → ℕ → (List ℕ → Type 0) → List ℕ → Type 0
-Behind strict kind zero Then bytes = Then bytes
-Behind strict kind (suc more) Then bytes = EndsString strict kind (Behind strict kind more Then) bytes
+abbrev pub Behind : Spelling → Kind → ℕ → (List ℕ → Type 0) → List ℕ → Type 0
+Behind allowed kind zero Then bytes = Then bytes
+Behind allowed kind (suc more) Then bytes = EndsString allowed kind (Behind allowed kind more Then) bytes
 
 -- The bytes end all open strings.
-abbrev pub EndsStrings : Bool → Kind → ℕ → (List ℕ → Type 0) → List ℕ → Type 0
-EndsStrings strict kind more Then bytes = EndsString strict kind (Behind strict kind more Then) bytes
+abbrev pub EndsStrings : Spelling → Kind → ℕ → (List ℕ → Type 0) → List ℕ → Type 0
+EndsStrings allowed kind more Then bytes = EndsString allowed kind (Behind allowed kind more Then) bytes
 
 -- The bytes that are due if a title is due, for an item or within an open string.
-abbrev pub TitleDue : Bool → Within → ℕ → List Level → List ℕ → Type 0
-TitleDue strict w.Nothing depth levels bytes = ItemDue strict depth levels bytes
-TitleDue strict (w.Bytes more) depth levels bytes = EndsStrings strict Bytes more (Ends strict depth levels) bytes
-TitleDue strict (w.Text more) depth levels bytes = EndsStrings strict Text more (Ends strict depth levels) bytes
+abbrev pub TitleDue : Spelling → Within → ℕ → List Level → List ℕ → Type 0
+TitleDue allowed w.Nothing depth levels bytes = ItemDue allowed depth levels bytes
+TitleDue allowed (w.Bytes more) depth levels bytes = EndsStrings allowed Bytes more (Ends allowed depth levels) bytes
+TitleDue allowed (w.Text more) depth levels bytes = EndsStrings allowed Text more (Ends allowed depth levels) bytes
 
 -- The bytes that are due after a string of a definite length.
-abbrev pub StringDone : Bool → Within → ℕ → List Level → List ℕ → Type 0
-StringDone strict w.Nothing depth levels bytes = Ends strict depth levels bytes
-StringDone strict (w.Bytes more) depth levels bytes = EndsStrings strict Bytes more (Ends strict depth levels) bytes
-StringDone strict (w.Text more) depth levels bytes = EndsStrings strict Text more (Ends strict depth levels) bytes
+abbrev pub StringDone : Spelling → Within → ℕ → List Level → List ℕ → Type 0
+StringDone allowed w.Nothing depth levels bytes = Ends allowed depth levels bytes
+StringDone allowed (w.Bytes more) depth levels bytes = EndsStrings allowed Bytes more (Ends allowed depth levels) bytes
+StringDone allowed (w.Text more) depth levels bytes = EndsStrings allowed Text more (Ends allowed depth levels) bytes
 
 -- A body of this many bytes, and then come bytes with the property `Then`.
 pub record BodyThen (len : ℕ) (Sound Then : List ℕ → Type 0) (bytes : List ℕ) : Type 0 where
@@ -114,11 +115,11 @@ abbrev pub TextBody : State → List ℕ → Type 0
 TextBody state body = after state body ≡ s.Between
 
 abbrev pub WaitsIn : Phase → Spot → List ℕ → Type 0
-WaitsIn p.Title spot bytes = TitleDue spot.strict spot.within spot.depth spot.levels (spot.front ++ bytes)
+WaitsIn p.Title spot bytes = TitleDue spot.allowed spot.within spot.depth spot.levels (spot.front ++ bytes)
 WaitsIn (p.Bytes len) spot bytes = BodyThen len AnyBody
-    (StringDone spot.strict spot.within spot.depth spot.levels) bytes
+    (StringDone spot.allowed spot.within spot.depth spot.levels) bytes
 WaitsIn (p.Text len state) spot bytes =
-    BodyThen len (TextBody state) (StringDone spot.strict spot.within spot.depth spot.levels) bytes
+    BodyThen len (TextBody state) (StringDone spot.allowed spot.within spot.depth spot.levels) bytes
 WaitsIn p.Ended spot bytes = bytes ≡ []
 WaitsIn (p.Faulted fault) spot bytes = ⊥
 

@@ -1,5 +1,6 @@
 -- A checker, and the plain numbers of one, by the bytes that it has read.
-use Rattle.std.specs.Prelude.{◌≡◌, Bool, ℕ, List}
+use Rattle.ciborium_ll_grammar.specs.declared.spelling.Spelling.{Spelling}
+use Rattle.std.specs.Prelude.{◌≡◌, ℕ, List}
 use Rattle.cbor_checker.specs.declared.checker.Checker.{Checker}
 use Rattle.cbor_checker.specs.declared.snapshot.Snapshot.{Snapshot}
 use Rattle.cbor_checker.specs.declared.progress.End.{End}
@@ -15,12 +16,12 @@ use Rattle.cbor_checker.specs.Telling.{end_of, progress_of}
 abbrev pub spot_of : Checker → Spot
 spot_of c = spot_in c.position c.kinds c.counts
 
--- The checker has read exactly these bytes, for an item to the depth, and if `strict` in its shortest spelling (RFC
+-- The checker has read exactly these bytes, for an item to the depth, and for `Shortest` in its shortest spelling (RFC
 -- 7049, 2.1 to 2.4 and 3.9). A checker that took `82` and then `01` has read `82 01`. A caller needs no more of this
--- word: `new` and `feed` say when it holds, and `Tells` says what follows for the bytes. How a checker keeps what it has
--- read is its own.
-unfoldable pub HasRead : Bool → ℕ → List ℕ → Checker → Type 0
-HasRead strict depth bytes checker = IsFed strict depth bytes (spot_of checker)
+-- word: `new` and `feed` say when it holds, and `Tells` says what follows for the bytes. How a checker keeps what it
+-- has read is its own.
+unfoldable pub HasRead : Spelling → ℕ → List ℕ → Checker → Type 0
+HasRead allowed depth bytes checker = IsFed allowed depth bytes (spot_of checker)
 
 -- The checker's answer, with the number that is due or the place of a fault: `More(2)` after `19`. The law `one_answer`
 -- says that the bytes decide it.
@@ -40,8 +41,8 @@ AnswersEnd checker end = end ≡ end_of (spot_of checker)
 
 -- The plain numbers are those of a checker that has read exactly these bytes, as in `HasRead`. Numbers that a checker
 -- wrote after `82 01` keep `82 01`. How they keep it is their own.
-unfoldable pub Keeps : Bool → ℕ → List ℕ → Snapshot → Type 0
-Keeps strict depth bytes snapshot = (spot : Spot) × IsFed strict depth bytes spot × Holds snapshot spot
+unfoldable pub Keeps : Spelling → ℕ → List ℕ → Snapshot → Type 0
+Keeps allowed depth bytes snapshot = (spot : Spot) × IsFed allowed depth bytes spot × Holds snapshot spot
 
 -- The plain numbers are those of this checker. The numbers that a checker wrote after `82 01` are those of a checker
 -- that has read `82 01`. The law `one_saved` says that all checkers with these numbers answer the same.

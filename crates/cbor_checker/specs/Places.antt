@@ -1,6 +1,5 @@
 -- A checker's position and the numbers of its nests as the spot that it has come to.
 use Rattle.std.specs.Prelude.{ℕ, List}
-use Rattle.ciborium_ll_grammar.specs.Spellings.{is_shortest}
 use Rattle.cbor_checker.specs.declared.position.Position.{Position}
 use Rattle.cbor_checker.specs.Snapshots.{levels_in}
 use Rattle.cbor_checker.specs.Spots.{Spot}
@@ -10,7 +9,7 @@ use Rattle.cbor_checker.specs.Stack.{levels_of}
 -- one item left after the item that is due.
 abbrev pub spot_in : Position → List ℕ → List ℕ → Spot
 spot_in p kinds counts = record {
-  strict = is_shortest p.spelling;
+  allowed = p.spelling;
   phase = p.phase;
   front = p.front;
   within = p.within;

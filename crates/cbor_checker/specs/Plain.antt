@@ -1,6 +1,7 @@
 -- Items whose first bytes give their length, and whose bytes are all there.
-use Rattle.std.specs.Prelude.{◌≡◌, ◌==◌, ℕ, zero, suc, ◌+◌, ◌*◌, ◌/◌, ◌%◌, ◌<◌, ◌≤◌, ◌⊎◌, Bool, List, [], ◌∷◌, ◌++◌, ◌-◌, length}
+use Rattle.std.specs.Prelude.{◌≡◌, ◌==◌, ℕ, zero, suc, ◌+◌, ◌*◌, ◌/◌, ◌%◌, ◌<◌, ◌≤◌, ◌⊎◌, List, [], ◌∷◌, ◌++◌, ◌-◌, length}
 use Rattle.std.specs.Prelude.{if◌then◌else◌, Option, Some, None}
+use Rattle.ciborium_ll_grammar.specs.declared.spelling.Spelling.{Spelling}
 use Rattle.ciborium_ll_grammar.specs.Title.{affix_len}
 use Rattle.cbor_checker.specs.declared.phase.Phase.TheVariants as p
 use Rattle.cbor_checker.specs.declared.phase.Within.TheVariants as w
@@ -15,9 +16,9 @@ abbrev pub passed : ℕ → Spot → Spot
 passed len spot = record spot { front = []; place = spot.offset; offset = spot.offset + len }
 
 -- If an item is due, these bytes are an item and lead past it, as `01` and `61 61` do (RFC 7049, 2.1).
-abbrev pub IsPlainItem : Bool → List ℕ → Type 0
-IsPlainItem strict bytes = (spot : Spot) → spot.phase ≡ p.Title → length spot.front ≡ 0 → spot.within ≡ w.Nothing
-    → spot.strict ≡ strict → Leads spot bytes (item_done (passed (length bytes) spot))
+abbrev pub IsPlainItem : Spelling → List ℕ → Type 0
+IsPlainItem allowed bytes = (spot : Spot) → spot.phase ≡ p.Title → length spot.front ≡ 0 → spot.within ≡ w.Nothing
+    → spot.allowed ≡ allowed → Leads spot bytes (item_done (passed (length bytes) spot))
 
 -- The major types of numbers, floats and simple values (RFC 7049, 2.1): 0, 1 and 7, as of `01`, `20` and `f4`.
 abbrev pub IsValueMajor : ℕ → Type 0
@@ -36,13 +37,13 @@ IsSpan first len text_len =
     × IsValueMajor (first / 32)
     ⊎ (len ≡ 1 + first % 32) × (first % 32 < 24) × (first / 32 ≡ 3) × (text_len ≡ first % 32))))
 
--- `ArePlain strict offset first count last bytes`: these bytes are `count` plain items, joined, and begin at the
+-- `ArePlain allowed offset first count last bytes`: these bytes are `count` plain items, joined, and begin at the
 -- offset. `last` is the offset of the last item, or `first` if there is none. In `01 02` at 5, the last item is at 6.
-pub data ArePlain (strict : Bool) (offset first : ℕ) : ℕ → ℕ → List ℕ → Type 0 where
-  none : ArePlain strict offset first zero first []
-  more : {count last : ℕ} {bytes item : List ℕ} → ArePlain strict offset first count last bytes
-      → IsPlainItem strict item
-      → ArePlain strict offset first (suc count) (offset + length bytes) (bytes ++ item)
+pub data ArePlain (allowed : Spelling) (offset first : ℕ) : ℕ → ℕ → List ℕ → Type 0 where
+  none : ArePlain allowed offset first zero first []
+  more : {count last : ℕ} {bytes item : List ℕ} → ArePlain allowed offset first count last bytes
+      → IsPlainItem allowed item
+      → ArePlain allowed offset first (suc count) (offset + length bytes) (bytes ++ item)
 
 -- How many items are due in a nest after the current item, if they are counted (RFC 7049, 2.1): 4 for two pairs, and 5
 -- for a value and two pairs. The items of `9f` are not counted.

@@ -1,8 +1,10 @@
 -- A spot as plain numbers, which a caller keeps in its own memory.
-use Rattle.std.specs.Prelude.{◌≡◌, ◌==◌, ◌+◌, ◌≤◌, ◌%◌, ℕ, zero, suc, Bool, true, false, List, [], ◌∷◌, Option, Some}
+use Rattle.std.specs.Prelude.{◌≡◌, ◌==◌, ◌+◌, ◌≤◌, ◌%◌, ℕ, zero, suc, true, List, [], ◌∷◌, Option, Some}
 use Rattle.std.specs.Prelude.{None}
 use Rattle.std.specs.Prelude.{if◌then◌else◌, slice_index, take}
 use Rattle.ciborium_ll_grammar.specs.Title.{affix_len}
+use Rattle.ciborium_ll_grammar.specs.declared.spelling.Spelling.{Spelling}
+use Rattle.ciborium_ll_grammar.specs.declared.spelling.Spelling.TheVariants.{Any, Shortest}
 use Rattle.ciborium_ll_text.specs.declared.state.State.{State}
 use Rattle.ciborium_ll_text.specs.Numbers.{state_in}
 use Rattle.cbor_checker.specs.declared.level.Level.{Level}
@@ -34,9 +36,9 @@ phase_in kind number text =
     (if kind == 6 then Some (p.Faulted (f.Break number)) else
     (if kind == 7 then Some (p.Faulted (f.Deep number)) else None))))))
 
--- Whether only the shortest spelling is taken, by a number: 0 is no, 1 is yes, and 2 is neither.
-abbrev pub strict_in : ℕ → Option Bool
-strict_in number = if number == 0 then Some false else (if number == 1 then Some true else None)
+-- The spelling that is taken, by a number: 0 is any, 1 is the shortest alone, and 2 is neither.
+abbrev pub spelling_in : ℕ → Option Spelling
+spelling_in number = if number == 0 then Some Any else (if number == 1 then Some Shortest else None)
 
 -- The strings that are open, by the number of their kind and how many there are within the first. Kind 1 with the
 -- number 1 is two open byte strings, as after `5f 5f`.
@@ -84,7 +86,7 @@ pub record IsState (snapshot : Snapshot) (phase : Phase) (within : Within) : Typ
 -- and the count 1, and the offset 1.
 pub record Holds (snapshot : Snapshot) (spot : Spot) : Type 0 where
   pub phase : phase_in snapshot.phase snapshot.number snapshot.text ≡ Some spot.phase
-  pub strict : strict_in snapshot.strict ≡ Some spot.strict
+  pub allowed : spelling_in snapshot.strict ≡ Some spot.allowed
   pub title : take snapshot.title_len snapshot.title ≡ spot.front
   pub within : within_in snapshot.strings snapshot.more ≡ Some spot.within
   pub depth : snapshot.depth ≡ spot.depth

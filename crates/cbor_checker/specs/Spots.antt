@@ -1,6 +1,8 @@
 -- The *spot* that the bytes so far have come to. `proofs/Waiting.antt` says what a spot means: which bytes after it
 -- make a whole item of all. `Tells` says it of the bytes alone.
-use Rattle.std.specs.Prelude.{ℕ, zero, suc, ◌-◌, Bool, true, false, List, [], ◌∷◌, Some, None}
+use Rattle.std.specs.Prelude.{ℕ, zero, suc, ◌-◌, true, false, List, [], ◌∷◌, Some, None}
+use Rattle.ciborium_ll_grammar.specs.declared.spelling.Spelling.{Spelling}
+use Rattle.ciborium_ll_grammar.specs.declared.spelling.Spelling.TheVariants.{Any, Shortest}
 use Rattle.ciborium_ll_grammar.specs.declared.hdr.Header.{Header}
 use Rattle.ciborium_ll_grammar.specs.declared.hdr.Header.TheVariants as h
 use Rattle.ciborium_ll_grammar.specs.Title.{title_len}
@@ -18,7 +20,7 @@ use Rattle.cbor_checker.specs.Levels.{closes, contents, next}
 -- would name, and how many bytes came. After `82 19` with depth 3, the front is `19`, two levels are left, there is one
 -- nest, the place is 1 and the offset 2.
 pub record Spot : Type 0 where
-  pub strict : Bool
+  pub allowed : Spelling
   pub phase : Phase
   pub front : List ℕ
   pub within : Within
@@ -113,15 +115,15 @@ string_closed within (suc more) spot = string_open (within more) spot
 
 -- The spot after an open within an open string of its kind (RFC 7049, 2.2.2), as the second byte of `5f 5f`. The
 -- shortest spelling has none (3.9).
-abbrev pub open_entered : Bool → Within → Spot → Spot
-open_entered true within spot = refused spot
-open_entered false within spot = string_open within spot
+abbrev pub open_entered : Spelling → Within → Spot → Spot
+open_entered Shortest within spot = refused spot
+open_entered Any within spot = string_open within spot
 
 -- The spot after a whole title within a byte string (RFC 7049, 2.2.2): `41` begins a piece, `ff` ends the string, and
 -- `61` is a fault.
 abbrev pub bytes_entered : Header → ℕ → Spot → Spot
 bytes_entered (h.Bytes (Some len)) more spot = bytes_due len spot
-bytes_entered (h.Bytes None) more spot = open_entered spot.strict (w.Bytes (suc more)) spot
+bytes_entered (h.Bytes None) more spot = open_entered spot.allowed (w.Bytes (suc more)) spot
 bytes_entered h.Break more spot = string_closed w.Bytes more spot
 bytes_entered header more spot = refused spot
 
@@ -129,7 +131,7 @@ bytes_entered header more spot = refused spot
 -- a fault.
 abbrev pub text_entered : Header → ℕ → Spot → Spot
 text_entered (h.Text (Some len)) more spot = text_due len spot
-text_entered (h.Text None) more spot = open_entered spot.strict (w.Text (suc more)) spot
+text_entered (h.Text None) more spot = open_entered spot.allowed (w.Text (suc more)) spot
 text_entered h.Break more spot = string_closed w.Text more spot
 text_entered header more spot = refused spot
 

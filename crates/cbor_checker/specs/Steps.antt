@@ -1,5 +1,6 @@
 -- Steps from spot to spot: by one more byte, and by a list of bytes.
 use Rattle.std.specs.Prelude.{◌≡◌, ℕ, zero, suc, ◌+◌, ◌<◌, Bool, List, [], ◌∷◌, ◌++◌, true, false}
+use Rattle.ciborium_ll_grammar.specs.declared.spelling.Spelling.{Spelling}
 use Rattle.ciborium_ll_grammar.specs.declared.hdr.Header.{Header}
 use Rattle.ciborium_ll_grammar.specs.Title.{IsTitle, IsCutTitle}
 use Rattle.ciborium_ll_grammar.specs.Items.{IsTakenTitle}
@@ -12,9 +13,9 @@ use Rattle.cbor_checker.specs.declared.phase.Fault.{Fault}
 use Rattle.cbor_checker.specs.Spots.{Spot, at_phase, bytes_due, entered, refused, string_done}
 
 -- No byte came, and one item is due. With depth 3, three levels are left, and the place and the offset are 0.
-abbrev pub start : Bool → ℕ → Spot
-start strict depth = record {
-  strict = strict;
+abbrev pub start : Spelling → ℕ → Spot
+start allowed depth = record {
+  allowed = allowed;
   phase = p.Title;
   front = [];
   within = w.Nothing;
@@ -42,15 +43,15 @@ abbrev pub titled : Header → Spot → Spot
 titled header spot = entered spot.within header (record spot { front = [] })
 
 -- A title that begins with these bytes is taken, as `19 01 00` for `19` (RFC 7049, 2.1 and 3.9).
-abbrev pub SomeTaken : Bool → List ℕ → Type 0
-SomeTaken strict front =
-    (more : List ℕ) × (header : Header) × IsTitle (front ++ more) header × IsTakenTitle strict (front ++ more) header
+abbrev pub SomeTaken : Spelling → List ℕ → Type 0
+SomeTaken allowed front =
+    (more : List ℕ) × (header : Header) × IsTitle (front ++ more) header × IsTakenTitle allowed (front ++ more) header
 
 -- Nothing that begins with these bytes begins with a title that is taken (RFC 7049, 2.1 and 3.9). So it is with `1c`,
--- and if `strict` with `19 00`.
-abbrev pub NoneTaken : Bool → List ℕ → Type 0
-NoneTaken strict front =
-    (more title rest : List ℕ) (header : Header) → IsTitle title header → IsTakenTitle strict title header
+-- and for `Shortest` with `19 00`.
+abbrev pub NoneTaken : Spelling → List ℕ → Type 0
+NoneTaken allowed front =
+    (more title rest : List ℕ) (header : Header) → IsTitle title header → IsTakenTitle allowed title header
     → front ++ more ≡ title ++ rest → ⊥
 
 -- The spot that a byte of a title leads to. The byte stands at the end of the front (RFC 7049, 2.1). If an item is due,
@@ -58,21 +59,21 @@ NoneTaken strict front =
 pub data TitleStep (spot : Spot) : Spot → Type 0 where
   -- The title isn't whole. Some titles with this beginning are taken, and all of them may stand here. So it is with
   -- `19` if an item is due.
-  cut : IsCutTitle spot.front → SomeTaken spot.strict spot.front
+  cut : IsCutTitle spot.front → SomeTaken spot.allowed spot.front
       → ((more : List ℕ) (header : Header) (fault : Fault) → IsTitle (spot.front ++ more) header
       → (titled header spot).phase ≡ p.Faulted fault → ⊥)
       → TitleStep spot spot
   -- The title isn't whole. Some titles with this beginning are taken, and none of them may stand here. So it is with
   -- `78` within a byte string.
-  early : (fault : Fault) → IsCutTitle spot.front → SomeTaken spot.strict spot.front
+  early : (fault : Fault) → IsCutTitle spot.front → SomeTaken spot.allowed spot.front
       → ((more : List ℕ) (header : Header) → IsTitle (spot.front ++ more) header
       → (titled header spot).phase ≡ p.Faulted fault)
       → TitleStep spot (at_phase (p.Faulted fault) spot)
   -- The title is whole, and is taken, as `01`.
-  whole : (header : Header) → IsTitle spot.front header → IsTakenTitle spot.strict spot.front header
+  whole : (header : Header) → IsTitle spot.front header → IsTakenTitle spot.allowed spot.front header
       → TitleStep spot (titled header spot)
   -- No title that is taken begins with these bytes, as with `1c`.
-  none : NoneTaken spot.strict spot.front → TitleStep spot (refused (record spot { front = [] }))
+  none : NoneTaken spot.allowed spot.front → TitleStep spot (refused (record spot { front = [] }))
 
 -- The spot after a byte of a text, with this many bytes left. With `false`, no text has this beginning. One byte is
 -- left after `62 c3`, and `62 ff` has a fault.
@@ -112,10 +113,10 @@ pub data Leads : Spot → List ℕ → Spot → Type 0 where
   go : {bytes : List ℕ} {spot next new : Spot} (byte : ℕ) → byte < 256 → Step spot byte next → Leads next bytes new
       → Leads spot (byte ∷ bytes) new
 
--- `IsFed strict depth bytes spot`: these bytes have led from `start` to the spot, with a `Step` for each. They are fed
--- as one item nested to the depth, and if `strict` in its shortest spelling. With depth 0, `82` has led to a fault, and
--- `82 01` to no spot.
-pub data IsFed (strict : Bool) (depth : ℕ) : List ℕ → Spot → Type 0 where
-  fresh : IsFed strict depth [] (start strict depth)
-  more : {bytes : List ℕ} {spot new : Spot} (byte : ℕ) → byte < 256 → IsFed strict depth bytes spot
-      → Step spot byte new → IsFed strict depth (bytes ++ byte ∷ []) new
+-- `IsFed allowed depth bytes spot`: these bytes have led from `start` to the spot, with a `Step` for each. They are fed
+-- as one item nested to the depth, and for `Shortest` in its shortest spelling. With depth 0, `82` has led to a fault,
+-- and `82 01` to no spot.
+pub data IsFed (allowed : Spelling) (depth : ℕ) : List ℕ → Spot → Type 0 where
+  fresh : IsFed allowed depth [] (start allowed depth)
+  more : {bytes : List ℕ} {spot new : Spot} (byte : ℕ) → byte < 256 → IsFed allowed depth bytes spot
+      → Step spot byte new → IsFed allowed depth (bytes ++ byte ∷ []) new

@@ -1,6 +1,5 @@
 -- A checker during a call as the spot that it has come to. The numbers of its nests stand in the caller's memory.
 use Rattle.std.specs.Prelude.{◌≡◌, ◌-◌, ℕ, List, length, take, drop}
-use Rattle.ciborium_ll_grammar.specs.Spellings.{is_shortest}
 use Rattle.cbor_checker.specs.declared.level.Level.{Level}
 use Rattle.cbor_checker.specs.declared.levels.Levels.{Levels}
 use Rattle.cbor_checker.specs.declared.walk.Walk.{Walk}
@@ -20,7 +19,7 @@ AreLent old new = (new.kinds.ghost_name ≡ old.kinds.ghost_name) × (new.counts
 -- The spot that a walk has come to. After `81 19` the place is 1, and the offset 2.
 abbrev pub spot_at : Walk → Spot
 spot_at w = record {
-  strict = is_shortest w.spelling;
+  allowed = w.spelling;
   phase = w.phase;
   front = w.front;
   within = w.within;

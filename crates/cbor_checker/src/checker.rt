@@ -1,5 +1,7 @@
 //! The checker: the position that its bytes have led to, and its answers.
 
+ghost use Rattle.ciborium_ll_grammar.specs.declared.spelling.Spelling.{Spelling};
+ghost use Rattle.ciborium_ll_grammar.specs.declared.spelling.Spelling.TheVariants.{Any, Shortest};
 ghost use Rattle.std.specs.Prelude.{◌≡◌, ◌<◌, ◌+◌, ◌≤◌, length, true, false, IsSome};
 ghost use Rattle.cbor_checker.specs.Snapshots.{levels_in};
 ghost use Rattle.ciborium_ll_grammar.specs.declared.limits.TheConstants.{MOST_LEVELS};
@@ -29,7 +31,6 @@ impl Checker {
     ghost use Rattle.cbor_checker.specs.Reading.{IsMore, Reads, Tells, TellsEnd};
     ghost use Rattle.cbor_checker.specs.declared.progress.Progress.{Progress};
     ghost use Rattle.cbor_checker.specs.declared.progress.Progress.TheVariants as r;
-    ghost use Rattle.ciborium_ll_grammar.specs.Spellings.{is_shortest};
     ghost use Rattle.ciborium_ll_grammar.specs.declared.limits.TheConstants.{MOST_LEVELS};
 
     /// Makes a checker for one item (RFC 7049, 2.1 to 2.4), which has read no byte.
@@ -39,7 +40,7 @@ impl Checker {
     #[inline(always)]
     pub fn new(depth: usize) -> Checker
         requires { depth ≤ MOST_LEVELS }
-        ensures { HasRead false depth [] result }
+        ensures { HasRead Any depth [] result }
     {
         Checker::with_spelling(depth, Spelling::Any)
     }
@@ -52,7 +53,7 @@ impl Checker {
     #[inline(always)]
     pub fn strict(depth: usize) -> Checker
         requires { depth ≤ MOST_LEVELS }
-        ensures { HasRead true depth [] result }
+        ensures { HasRead Shortest depth [] result }
     {
         Checker::with_spelling(depth, Spelling::Shortest)
     }
@@ -61,7 +62,7 @@ impl Checker {
     #[inline(always)]
     pub fn with_spelling(depth: usize, spelling: Spelling) -> Checker
         requires { depth ≤ MOST_LEVELS }
-        ensures { HasRead (is_shortest spelling) depth [] result }
+        ensures { HasRead spelling depth [] result }
     {
         Checker {
             position: Position::of(spelling, depth),
@@ -73,8 +74,8 @@ impl Checker {
     /// Returns the last answer of [`Checker::feed`], or `More(1)` before the first piece. After a `TooLong` it returns
     /// `More`. The answer is true of all bytes that the checker has read.
     pub fn progress(&self) -> Progress
-        ensures tells { (strict : Bool) (depth : ℕ) (read : List ℕ) → HasRead strict depth read self.now
-            → Tells strict depth read result }
+        ensures tells { (allowed : Spelling) (depth : ℕ) (read : List ℕ) → HasRead allowed depth read self.now
+            → Tells allowed depth read result }
         ensures is { Answers self.now result }
         ensures long { result ≡ r.TooLong → ⊥ }
     {
@@ -88,8 +89,8 @@ impl Checker {
     /// Returns how the item stands if no more bytes come. The number that is due and the fault are those of
     /// [`Checker::progress`].
     pub fn end(&self) -> End
-        ensures tells { (strict : Bool) (depth : ℕ) (read : List ℕ) → HasRead strict depth read self.now
-            → TellsEnd strict depth read result }
+        ensures tells { (allowed : Spelling) (depth : ℕ) (read : List ℕ) → HasRead allowed depth read self.now
+            → TellsEnd allowed depth read result }
         ensures is { AnswersEnd self.now result }
     {
         if self.position.offset == 0 {
@@ -111,9 +112,9 @@ impl Checker {
     /// checker has read, however a caller cut them ([`one_answer`](crate::laws::one_answer)).
     #[inline(always)]
     pub fn feed(&mut self, bytes: &[u8]) -> Feed
-        ensures read { (strict : Bool) (depth : ℕ) (read : List ℕ) → HasRead strict depth read self.old
-            → HasRead strict depth (read ++ take result.taken bytes.now) self.new
-            × Reads strict depth read bytes.now result }
+        ensures read { (allowed : Spelling) (depth : ℕ) (read : List ℕ) → HasRead allowed depth read self.old
+            → HasRead allowed depth (read ++ take result.taken bytes.now) self.new
+            × Reads allowed depth read bytes.now result }
         ensures is { AnswersPiece self.new result.progress }
         ensures taken { result.taken ≤ length bytes.now }
         ensures all { IsMore result.progress → result.taken ≡ length bytes.now }
@@ -128,8 +129,8 @@ impl Checker {
     /// numbers of only those levels that are in use.
     #[inline(always)]
     pub fn save(&self, snapshot: &mut Snapshot)
-        ensures keeps { (strict : Bool) (depth : ℕ) (read : List ℕ) → HasRead strict depth read self.now
-            → Keeps strict depth read snapshot.new }
+        ensures keeps { (allowed : Spelling) (depth : ℕ) (read : List ℕ) → HasRead allowed depth read self.now
+            → Keeps allowed depth read snapshot.new }
         ensures saves { Saves self.now snapshot.new }
     {
         copy_levels(
@@ -145,8 +146,8 @@ impl Checker {
     /// Becomes the checker that [`Checker::save`] wrote, and returns whether there is one. It has read the same bytes.
     #[inline(always)]
     pub fn load(&mut self, snapshot: &Snapshot) -> bool
-        ensures kept { (strict : Bool) (depth : ℕ) (read : List ℕ) → Keeps strict depth read snapshot.now
-            → (result ≡ true) × HasRead strict depth read self.new }
+        ensures kept { (allowed : Spelling) (depth : ℕ) (read : List ℕ) → Keeps allowed depth read snapshot.now
+            → (result ≡ true) × HasRead allowed depth read self.new }
         ensures some { result ≡ true → Saves self.new snapshot.now }
         ensures found { HoldsSome snapshot.now → result ≡ true }
         ensures none { result ≡ false → self.new ≡ self.old }
@@ -163,8 +164,8 @@ impl Checker {
     /// same bytes.
     #[inline(always)]
     pub fn restore(snapshot: &Snapshot) -> Option<Checker>
-        ensures kept { (strict : Bool) (depth : ℕ) (read : List ℕ) → Keeps strict depth read snapshot.now
-            → IsSomeAnd result (λ checker. HasRead strict depth read checker) }
+        ensures kept { (allowed : Spelling) (depth : ℕ) (read : List ℕ) → Keeps allowed depth read snapshot.now
+            → IsSomeAnd result (λ checker. HasRead allowed depth read checker) }
         ensures some { IfSome result (λ checker. Saves checker snapshot.now) }
         ensures found { HoldsSome snapshot.now → IsSome result }
     {

@@ -1,5 +1,6 @@
 //! Laws of the checker's answers, each the contract of an empty function.
 
+ghost use Rattle.ciborium_ll_grammar.specs.declared.spelling.Spelling.{Spelling};
 ghost use Rattle.std.specs.Prelude.{Bool, ℕ, ◌≡◌, ◌+◌, ◌++◌, ◌⊎◌, ◌↔◌, List, length};
 ghost use Rattle.ciborium_ll_grammar.specs.Items.{IsItem};
 ghost use Rattle.cbor_checker.specs.Checking.{Answers, AnswersEnd, HasRead, Saves};
@@ -16,11 +17,11 @@ ghost use Rattle.cbor_checker.specs.declared.snapshot.Snapshot.{Snapshot};
 /// Checkers that have read the same bytes answer the same, however a caller cut the bytes into pieces. The number that
 /// is due and the place of a fault are the same, too.
 pub fn one_answer()
-    ensures answer { (strict : Bool) (depth : ℕ) (read : List ℕ) (one other : Checker) (first second : Progress)
-        → HasRead strict depth read one → HasRead strict depth read other
+    ensures answer { (allowed : Spelling) (depth : ℕ) (read : List ℕ) (one other : Checker) (first second : Progress)
+        → HasRead allowed depth read one → HasRead allowed depth read other
         → Answers one first → Answers other second → first ≡ second }
-    ensures end { (strict : Bool) (depth : ℕ) (read : List ℕ) (one other : Checker) (first second : End)
-        → HasRead strict depth read one → HasRead strict depth read other
+    ensures end { (allowed : Spelling) (depth : ℕ) (read : List ℕ) (one other : Checker) (first second : End)
+        → HasRead allowed depth read one → HasRead allowed depth read other
         → AnswersEnd one first → AnswersEnd other second → first ≡ second }
 {}
 
@@ -34,21 +35,24 @@ pub fn end_answers()
 /// The answer is that the item has ended exactly if the bytes so far are an item, for a strict checker in its shortest
 /// spelling. The answer is a fault exactly if no such item begins as they do.
 pub fn exact_answers()
-    ensures ended { (strict : Bool) (depth : ℕ) (bytes : List ℕ) (progress : Progress) → Tells strict depth bytes progress
-        → (IsEnd progress ↔ IsItem strict depth bytes) }
-    ensures fault { (strict : Bool) (depth : ℕ) (bytes : List ℕ) (progress : Progress) → Tells strict depth bytes progress
-        → (IsFault progress ↔ (BeginsItem strict depth bytes → ⊥)) }
+    ensures ended { (allowed : Spelling) (depth : ℕ) (bytes : List ℕ) (progress : Progress) → Tells allowed depth bytes
+        progress
+        → (IsEnd progress ↔ IsItem allowed depth bytes) }
+    ensures fault { (allowed : Spelling) (depth : ℕ) (bytes : List ℕ) (progress : Progress) → Tells allowed depth bytes
+        progress
+        → (IsFault progress ↔ (BeginsItem allowed depth bytes → ⊥)) }
 {}
 
 /// A checker that reads two pieces answers as one that reads both of them, joined. So it is if it took the first piece
 /// whole (`both`), and if it answered to the first piece that no more bytes are due (`first`).
 pub fn joined_pieces()
-    ensures both { (strict : Bool) (depth : ℕ) (read one two : List ℕ) (first second all : Feed)
-        → Reads strict depth read one first → first.taken ≡ length one
-        → Reads strict depth (read ++ one) two second → all.taken ≡ length one + second.taken
-        → all.progress ≡ second.progress → Reads strict depth read (one ++ two) all }
-    ensures first { (strict : Bool) (depth : ℕ) (read one two : List ℕ) (feed : Feed) → Reads strict depth read one feed
-        → (IsMore feed.progress → ⊥) → Reads strict depth read (one ++ two) feed }
+    ensures both { (allowed : Spelling) (depth : ℕ) (read one two : List ℕ) (first second all : Feed)
+        → Reads allowed depth read one first → first.taken ≡ length one
+        → Reads allowed depth (read ++ one) two second → all.taken ≡ length one + second.taken
+        → all.progress ≡ second.progress → Reads allowed depth read (one ++ two) all }
+    ensures first { (allowed : Spelling) (depth : ℕ) (read one two : List ℕ) (feed : Feed) → Reads allowed depth read
+        one feed
+        → (IsMore feed.progress → ⊥) → Reads allowed depth read (one ++ two) feed }
 {}
 
 /// Checkers with the same plain numbers answer the same, even if no bytes lead to their state.

@@ -1,10 +1,10 @@
 //! Items whose first bytes give their length, and whose bytes are all there.
 
+ghost use Rattle.ciborium_ll_grammar.specs.declared.spelling.Spelling.{Spelling};
 ghost use Rattle.std.specs.Prelude.{Bool, ℕ, ◌≡◌, ◌+◌, ◌-◌, ◌<◌, ◌≤◌, drop, take, length, slice_index, true};
 ghost use Rattle.std.specs.Str.{IsAscii};
 ghost use Rattle.ciborium_ll_text.specs.declared.state.State.TheVariants as s;
 ghost use Rattle.ciborium_ll_text.specs.States.{after};
-ghost use Rattle.ciborium_ll_grammar.specs.Spellings.{is_shortest};
 ghost use Rattle.cbor_checker.specs.Plain.{ArePlain, IsPlainItem, IsSpan};
 
 use ciborium_ll_grammar::spelling::Spelling;
@@ -182,7 +182,7 @@ pub(crate) fn is_short_ascii(bytes: &[u8], at: usize, len: usize) -> bool
 fn string_len(bytes: &[u8]) -> usize
     requires some { 0 < length bytes.now }
     ensures within { result ≤ length bytes.now }
-    ensures plain { (strict : Bool) → 0 < result → IsPlainItem strict (take result bytes.now) }
+    ensures plain { (allowed : Spelling) → 0 < result → IsPlainItem allowed (take result bytes.now) }
 {
     if bytes.len() < 2 || bytes[1] < 24 {
         return 0;
@@ -207,7 +207,7 @@ fn string_len(bytes: &[u8]) -> usize
 fn plain_len(bytes: &[u8], at: usize, spelling: Spelling) -> usize
     requires some { at < length bytes.now }
     ensures within { at + result ≤ length bytes.now }
-    ensures plain { 0 < result → IsPlainItem (is_shortest spelling) (take result (drop at bytes.now)) }
+    ensures plain { 0 < result → IsPlainItem spelling (take result (drop at bytes.now)) }
 {
     let span = span_of(bytes[at]);
     if span.len == 0 {
@@ -244,7 +244,7 @@ fn run_of(bytes: &[u8], most: usize, spelling: Spelling, offset: usize, place: &
     ensures within { result.len ≤ length bytes.now }
     ensures most { result.left ≤ most }
     ensures some { result.left < most → 0 < result.len }
-    ensures plain { ArePlain (is_shortest spelling) offset place.old (most - result.left) place.new
+    ensures plain { ArePlain spelling offset place.old (most - result.left) place.new
         (take result.len bytes.now) }
 {
     let mut at = 0;
@@ -272,7 +272,7 @@ fn ascii_run(bytes: &[u8], most: usize, spelling: Spelling, offset: usize, place
     ensures within { result.len ≤ length bytes.now }
     ensures most { result.left ≤ most }
     ensures some { result.left < most → 0 < result.len }
-    ensures plain { ArePlain (is_shortest spelling) offset place.old (most - result.left) place.new
+    ensures plain { ArePlain spelling offset place.old (most - result.left) place.new
         (take result.len bytes.now) }
 {
     match spelling {
@@ -293,7 +293,7 @@ fn is_text(bytes: &[u8]) -> bool
 fn short_text_len(bytes: &[u8]) -> usize
     requires some { 0 < length bytes.now }
     ensures within { result ≤ length bytes.now }
-    ensures plain { (strict : Bool) → 0 < result → IsPlainItem strict (take result bytes.now) }
+    ensures plain { (allowed : Spelling) → 0 < result → IsPlainItem allowed (take result bytes.now) }
 {
     let len = 1 + usize::from(bytes[0] % 32);
     if bytes[0] / 32 != 3 || bytes[0] % 32 >= LONGER || len > bytes.len() {
@@ -306,7 +306,7 @@ fn short_text_len(bytes: &[u8]) -> usize
 fn text_len(bytes: &[u8]) -> usize
     requires some { 0 < length bytes.now }
     ensures within { result ≤ length bytes.now }
-    ensures plain { (strict : Bool) → 0 < result → IsPlainItem strict (take result bytes.now) }
+    ensures plain { (allowed : Spelling) → 0 < result → IsPlainItem allowed (take result bytes.now) }
 {
     if bytes[0] != 0x78 {
         return short_text_len(bytes);
@@ -328,8 +328,8 @@ fn text_run(bytes: &[u8], most: usize, offset: usize, place: &mut usize) -> Run
     ensures within { result.len ≤ length bytes.now }
     ensures most { result.left ≤ most }
     ensures some { result.left < most → 0 < result.len }
-    ensures plain { (strict : Bool)
-        → ArePlain strict offset place.old (most - result.left) place.new (take result.len bytes.now) }
+    ensures plain { (allowed : Spelling)
+        → ArePlain allowed offset place.old (most - result.left) place.new (take result.len bytes.now) }
 {
     let mut at = 0;
     let mut left = most;
@@ -370,7 +370,7 @@ pub(crate) fn plain_run(
     ensures within { result.len ≤ length bytes.now }
     ensures most { result.left ≤ most }
     ensures some { result.left < most → 0 < result.len }
-    ensures plain { ArePlain (is_shortest spelling) offset place.old (most - result.left) place.new
+    ensures plain { ArePlain spelling offset place.old (most - result.left) place.new
         (take result.len bytes.now) }
 {
     let mut run = ascii_run(bytes, most, spelling, offset, place);

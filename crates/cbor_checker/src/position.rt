@@ -1,5 +1,6 @@
 //! A checker's state without the numbers of its nests.
 
+ghost use Rattle.ciborium_ll_grammar.specs.declared.spelling.Spelling.{Spelling};
 ghost use Rattle.std.specs.Prelude.{◌≡◌, ◌+◌, ◌<◌, ◌≤◌, ◌%◌, length, slice_index, true, false, IsSome};
 ghost use Rattle.ciborium_ll_grammar.specs.Title.{affix_len};
 ghost use Rattle.cbor_checker.specs.Opens.{open_count};
@@ -43,14 +44,13 @@ impl Position {
     ghost use Rattle.cbor_checker.specs.Reading.{IsMore, Tells};
     ghost use Rattle.cbor_checker.specs.Telling.{IsAnswer, is_due};
     ghost use Rattle.cbor_checker.specs.declared.progress.Progress.TheVariants as r;
-    ghost use Rattle.ciborium_ll_grammar.specs.Spellings.{is_shortest};
     ghost use Rattle.ciborium_ll_grammar.specs.declared.limits.TheConstants.{MOST_LEVELS};
 
     /// Returns the position of a checker before its first byte.
     #[inline(always)]
     pub(crate) fn of(spelling: Spelling, depth: usize) -> Position
         requires { depth ≤ MOST_LEVELS }
-        ensures spot { (kinds counts : List ℕ) → spot_in result kinds counts ≡ start (is_shortest spelling) depth }
+        ensures spot { (kinds counts : List ℕ) → spot_in result kinds counts ≡ start spelling depth }
         ensures none { result.nests ≡ 0 }
     {
         Position {
@@ -143,11 +143,14 @@ impl Position {
         ensures taken { result.taken ≤ length bytes.now }
         ensures all { IsMore result.progress → result.taken ≡ length bytes.now }
         ensures long { result.progress ≡ r.TooLong → result.taken < length bytes.now }
-        ensures fed { (strict : Bool) (depth : ℕ) (fed : List ℕ) → IsFed strict depth fed (spot_in self.old kinds.old counts.old)
-            → IsFed strict depth (fed ++ take result.taken bytes.now) (spot_in self.new kinds.new counts.new) }
-        ensures tells { (strict : Bool) (depth : ℕ) (fed : List ℕ) → IsFed strict depth fed (spot_in self.old kinds.old counts.old)
-            → Tells strict depth (fed ++ take result.taken bytes.now) result.progress }
-        ensures counted { (strict : Bool) (depth : ℕ) (fed : List ℕ) → IsFed strict depth fed (spot_in self.old kinds.old counts.old)
+        ensures fed { (allowed : Spelling) (depth : ℕ) (fed : List ℕ) → IsFed allowed depth fed
+            (spot_in self.old kinds.old counts.old)
+            → IsFed allowed depth (fed ++ take result.taken bytes.now) (spot_in self.new kinds.new counts.new) }
+        ensures tells { (allowed : Spelling) (depth : ℕ) (fed : List ℕ) → IsFed allowed depth fed
+            (spot_in self.old kinds.old counts.old)
+            → Tells allowed depth (fed ++ take result.taken bytes.now) result.progress }
+        ensures counted { (allowed : Spelling) (depth : ℕ) (fed : List ℕ) → IsFed allowed depth fed
+            (spot_in self.old kinds.old counts.old)
             → length fed + result.taken ≤ usize.MAX }
         ensures answers { IsAnswer result.progress (spot_in self.new kinds.new counts.new) }
         ensures stays { is_due self.old.phase ≡ false → (result.taken ≡ 0) × (spot_in self.new kinds.new counts.new ≡ spot_in self.old kinds.old counts.old) }
@@ -171,9 +174,11 @@ impl Position {
         ensures known { IsSome (levels_in self.new.nests kinds.new counts.new) }
         ensures taken { result ≤ length bytes.now }
         ensures full { result < length bytes.now → is_due self.new.phase ≡ true → self.new.offset ≡ usize.MAX }
-        ensures fed { (strict : Bool) (depth : ℕ) (fed : List ℕ) → IsFed strict depth fed (spot_in self.old kinds.old counts.old)
-            → IsFed strict depth (fed ++ take result bytes.now) (spot_in self.new kinds.new counts.new) }
-        ensures counted { (strict : Bool) (depth : ℕ) (fed : List ℕ) → IsFed strict depth fed (spot_in self.old kinds.old counts.old)
+        ensures fed { (allowed : Spelling) (depth : ℕ) (fed : List ℕ) → IsFed allowed depth fed
+            (spot_in self.old kinds.old counts.old)
+            → IsFed allowed depth (fed ++ take result bytes.now) (spot_in self.new kinds.new counts.new) }
+        ensures counted { (allowed : Spelling) (depth : ℕ) (fed : List ℕ) → IsFed allowed depth fed
+            (spot_in self.old kinds.old counts.old)
             → length fed + result ≤ usize.MAX }
         ensures stays { is_due self.old.phase ≡ false → (result ≡ 0) × (spot_in self.new kinds.new counts.new ≡ spot_in self.old kinds.old counts.old) }
     {
@@ -212,8 +217,8 @@ impl Position {
         requires full { left ≡ true → is_due self.now.phase ≡ true → self.now.offset ≡ usize.MAX }
         ensures all { left ≡ true → IsMore result → ⊥ }
         ensures long { result ≡ r.TooLong → left ≡ true }
-        ensures tells { (kinds counts : List ℕ) (strict : Bool) (depth : ℕ) (fed : List ℕ)
-            → IsFed strict depth fed (spot_in self.now kinds counts) → Tells strict depth fed result }
+        ensures tells { (kinds counts : List ℕ) (allowed : Spelling) (depth : ℕ) (fed : List ℕ)
+            → IsFed allowed depth fed (spot_in self.now kinds counts) → Tells allowed depth fed result }
         ensures answers { (kinds counts : List ℕ) → IsAnswer result (spot_in self.now kinds counts) }
     {
         match answer(self.phase, &self.front, self.offset) {

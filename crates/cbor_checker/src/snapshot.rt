@@ -1,10 +1,10 @@
 //! A checker's state as plain numbers.
 
+ghost use Rattle.ciborium_ll_grammar.specs.declared.spelling.Spelling.{Spelling};
 ghost use Rattle.std.specs.Prelude.{◌≡◌, ◌<◌, ◌≤◌, length, true, false, IfNone, IfSome, IsSome, IsSomeAnd};
 ghost use Rattle.std.specs.Option.{option_map};
-ghost use Rattle.ciborium_ll_grammar.specs.Spellings.{is_shortest};
 ghost use Rattle.cbor_checker.specs.Opens.{open_count};
-ghost use Rattle.cbor_checker.specs.Snapshots.{IsState, strict_in};
+ghost use Rattle.cbor_checker.specs.Snapshots.{IsState, spelling_in};
 ghost use Rattle.cbor_checker.specs.Telling.{has_left};
 
 use crate::phase::{Phase, Within};
@@ -93,11 +93,12 @@ impl Snapshot {
     /// [`Checker::save`](crate::Checker::save) do, but copies no numbers of nests.
     #[inline(always)]
     pub fn feed(&mut self, bytes: &[u8]) -> Option<Feed>
-        ensures read { (strict : Bool) (depth : ℕ) (read : List ℕ) → Keeps strict depth read self.old
-            → IsSomeAnd result (λ feed. Keeps strict depth (read ++ take feed.taken bytes.now) self.new
-            × Reads strict depth read bytes.now feed) }
-        ensures is { (strict : Bool) (depth : ℕ) (read : List ℕ) → Keeps strict depth read self.old
-            → IfSome result (λ feed. (checker : Checker) → HasRead strict depth (read ++ take feed.taken bytes.now) checker
+        ensures read { (allowed : Spelling) (depth : ℕ) (read : List ℕ) → Keeps allowed depth read self.old
+            → IsSomeAnd result (λ feed. Keeps allowed depth (read ++ take feed.taken bytes.now) self.new
+            × Reads allowed depth read bytes.now feed) }
+        ensures is { (allowed : Spelling) (depth : ℕ) (read : List ℕ) → Keeps allowed depth read self.old
+            → IfSome result (λ feed. (checker : Checker) → HasRead allowed depth (read ++ take feed.taken bytes.now)
+            checker
             → AnswersPiece checker feed.progress) }
         ensures taken { IfSome result (λ feed. feed.taken ≤ length bytes.now) }
         ensures all { IfSome result (λ feed. IsMore feed.progress → feed.taken ≡ length bytes.now) }
@@ -144,7 +145,7 @@ fn are_counted(within: Within, offset: usize) -> bool
 
 /// Returns which spellings the checker takes: 0 is any, and 1 is the shortest only.
 pub(crate) fn spelling_of(number: u8) -> Option<Spelling>
-    ensures { option_map is_shortest result ≡ strict_in number }
+    ensures { result ≡ spelling_in number }
 {
     match number {
         0 => Some(Spelling::Any),

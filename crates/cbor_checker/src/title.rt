@@ -3,7 +3,6 @@
 ghost use Rattle.std.specs.Prelude.{◌≡◌, ◌<◌, ◌+◌, ◌%◌, ◌≤◌, true, false, IfSome, IfNone, length, slice_index};
 ghost use Rattle.ciborium_ll_grammar.specs.Title.{IsTitle, affix_len};
 ghost use Rattle.ciborium_ll_grammar.specs.Items.{IsTakenTitle};
-ghost use Rattle.ciborium_ll_grammar.specs.Spellings.{is_shortest};
 ghost use Rattle.cbor_checker.specs.Steps.{NoneTaken, SomeTaken};
 ghost use Rattle.cbor_checker.specs.Longer.{BeginsLonger, HasZero};
 ghost use Rattle.cbor_checker.specs.Blocked.{blocked, is_single};
@@ -22,8 +21,8 @@ use ciborium_ll_grammar::titles::title_of;
 pub(crate) fn taken_header(bytes: &[u8], spelling: Spelling) -> Option<Header>
     requires { length bytes.now ≡ 1 + affix_len (slice_index bytes.now 0 % 32) }
     ensures title { IfSome result (IsTitle bytes.now) }
-    ensures taken { IfSome result (IsTakenTitle (is_shortest spelling) bytes.now) }
-    ensures none { IfNone result (NoneTaken (is_shortest spelling) bytes.now) }
+    ensures taken { IfSome result (IsTakenTitle spelling bytes.now) }
+    ensures none { IfNone result (NoneTaken spelling bytes.now) }
 {
     let (title, kind) = title_of(bytes)?;
     if spelling.is_shortest() && title.minor.is_refused_when_strict(title.major) {
@@ -65,8 +64,8 @@ fn begins_longer(bytes: &[u8]) -> bool
 pub(crate) fn begins_none(bytes: &[u8], spelling: Spelling) -> bool
     requires some { 0 < length bytes.now }
     requires cut { length bytes.now ≤ affix_len (slice_index bytes.now 0 % 32) }
-    ensures yes { result ≡ true → NoneTaken (is_shortest spelling) bytes.now }
-    ensures no { result ≡ false → SomeTaken (is_shortest spelling) bytes.now }
+    ensures yes { result ≡ true → NoneTaken spelling bytes.now }
+    ensures no { result ≡ false → SomeTaken spelling bytes.now }
 {
     spelling.is_shortest() && begins_longer(bytes)
 }

@@ -3,6 +3,8 @@
 ghost use Rattle.std.specs.Prelude.{◌≡◌, ◌+◌, ◌<◌, ◌≤◌, ◌%◌, length, slice_index, true, false};
 ghost use Rattle.cbor_checker.specs.Telling.{has_left};
 ghost use Rattle.ciborium_ll_text.specs.States.{may_end};
+ghost use Rattle.ciborium_ll_grammar.specs.declared.spelling.Spelling.{Spelling};
+ghost use Rattle.ciborium_ll_grammar.specs.declared.spelling.Spelling.TheVariants.{Any};
 ghost use Rattle.ciborium_ll_grammar.specs.Title.{affix_len};
 ghost use Rattle.cbor_checker.specs.Opens.{open_count};
 ghost use Rattle.cbor_checker.specs.Blocked.{blocked, is_single};
@@ -44,7 +46,6 @@ impl Walk<'_> {
     ghost use Rattle.std.specs.Prelude.{Bool, ℕ, ◌-◌, ◌/◌, ◌++◌, List, [], IfSome, take, true, false};
     ghost use Rattle.ciborium_ll_grammar.specs.Title.{IsTitle};
     ghost use Rattle.ciborium_ll_grammar.specs.Items.{IsTakenTitle};
-    ghost use Rattle.ciborium_ll_grammar.specs.Spellings.{is_shortest};
     ghost use Rattle.ciborium_ll_grammar.specs.TitleRows.{IsTitleKind};
     ghost use Rattle.ciborium_ll_text.specs.States.{after_byte};
     ghost use Rattle.cbor_checker.specs.Steps.{IsFed, Leads, TitleStep, counted, counted_by, start, text_left};
@@ -192,7 +193,7 @@ impl Walk<'_> {
     /// Enters an open within an open string of its kind, or refuses it if only the shortest spelling is taken.
     fn enter_open(&mut self, within: Within)
         requires { open_count within ≤ self.old.offset }
-        ensures spot { spot_at self.new ≡ open_entered (is_shortest self.old.spelling) within (spot_at self.old) }
+        ensures spot { spot_at self.new ≡ open_entered self.old.spelling within (spot_at self.old) }
         ensures lent { AreLent self.old.levels self.new.levels }
     {
         if self.spelling.is_shortest() {
@@ -457,7 +458,7 @@ impl Walk<'_> {
         requires some { 0 < length bytes.now }
         requires room { self.old.offset + length bytes.now ≤ usize.MAX }
         requires title { IsTitle (take 1 bytes.now) header }
-        requires taken { IsTakenTitle (is_shortest self.old.spelling) (take 1 bytes.now) header }
+        requires taken { IsTakenTitle self.old.spelling (take 1 bytes.now) header }
         ensures some { 0 < result.0 }
         ensures within { result.0 ≤ length bytes.now }
         ensures leads { Leads (spot_at self.old) (take result.0 bytes.now) (spot_at self.new) }
@@ -508,7 +509,7 @@ impl Walk<'_> {
         requires phase { self.old.phase ≡ p.Title }
         requires fresh { length self.old.front ≡ 0 }
         requires due { self.old.within ≡ w.Nothing }
-        requires any { is_shortest self.old.spelling ≡ false }
+        requires any { self.old.spelling ≡ Any }
         requires value { is_single kind ≡ true }
         requires within { len ≤ length bytes.now }
         requires room { self.old.offset + length bytes.now ≤ usize.MAX }
@@ -767,9 +768,9 @@ impl Walk<'_> {
     pub(crate) fn take(&mut self, bytes: &[u8]) -> usize
         ensures taken { result ≤ length bytes.now }
         ensures full { result < length bytes.now → is_due self.new.phase ≡ true → self.new.offset ≡ usize.MAX }
-        ensures fed { (strict : Bool) (depth : ℕ) (fed : List ℕ) → IsFed strict depth fed (spot_at self.old)
-            → IsFed strict depth (fed ++ take result bytes.now) (spot_at self.new) }
-        ensures counted { (strict : Bool) (depth : ℕ) (fed : List ℕ) → IsFed strict depth fed (spot_at self.old)
+        ensures fed { (allowed : Spelling) (depth : ℕ) (fed : List ℕ) → IsFed allowed depth fed (spot_at self.old)
+            → IsFed allowed depth (fed ++ take result bytes.now) (spot_at self.new) }
+        ensures counted { (allowed : Spelling) (depth : ℕ) (fed : List ℕ) → IsFed allowed depth fed (spot_at self.old)
             → length fed + result ≤ usize.MAX }
         ensures stays { is_due self.old.phase ≡ false → (result ≡ 0) × (spot_at self.new ≡ spot_at self.old) }
         ensures lent { AreLent self.old.levels self.new.levels }

@@ -1,14 +1,15 @@
 -- The fault that a checker names, and the answer of a skip.
-use Rattle.std.proofs.Common.{◌≡◌, ℕ, ◌+◌, Bool, List, [], ◌++◌, length, take, drop, refl, sym, ap, subst, ◌∙◌, arith}
+use Rattle.std.proofs.Common.{◌≡◌, ℕ, ◌+◌, List, [], ◌++◌, length, take, drop, refl, sym, ap, subst, ◌∙◌, arith}
 use Rattle.std.proofs.Common.{append_assoc, append-nil, Result, Ok, Err, Some, IsTrue, ◌<◌, ◌≤◌, ◌^◌, ◌↔◌}
 use Rattle.std.proofs.Common.{length-append}
 use Rattle.std.proofs.lemmas.Bool.Decides.{nat_tests}
 use Rattle.std.proofs.Math.Seq.{take-length, drop-length}
+use Rattle.ciborium_ll_grammar.specs.declared.spelling.Spelling.{Spelling}
 use Rattle.ciborium_ll_grammar.proofs.ItemLaws.{one_item}
 use Rattle.std.proofs.lemmas.List.{take-append-drop}
 use Rattle.ciborium_ll_io.specs.declared.io.Read.{Ghosts}
 use Rattle.ciborium_ll_grammar.specs.Items.{IsItem, no_items, more_items}
-use Rattle.ciborium_ll_decoder.specs.Decoding.{IsFreshAs, offset_limit, strict_of}
+use Rattle.ciborium_ll_decoder.specs.Decoding.{IsFreshAs, offset_limit, spelling_of}
 use Rattle.ciborium_ll_decoder.specs.declared.dec.Decoder.{Decoder}
 use Rattle.ciborium_ll_decoder.specs.declared.dec.Error.TheVariants as e
 use Rattle.cbor_skip.specs.declared.SkipError.{SkipError}
@@ -38,7 +39,7 @@ phase_is : (phase : Phase) (spot : Spot) (fault : Fault) → progress_in phase s
     → phase ≡ p.Faulted fault
 phase_is phase spot fault e = grind (arith, nat_tests)
 
-module _ (s : Bool) (depth : ℕ) (fed more : List ℕ) (fault : Fault) (names : Names s depth fed fault) where
+module _ (s : Spelling) (depth : ℕ) (fed more : List ℕ) (fault : Fault) (names : Names s depth fed fault) where
   pub runs_here : FromStart fault s depth (fed ++ more)
   unfolding HasRead Answers
   runs_here =
@@ -79,10 +80,11 @@ module _ (s : Bool) (depth : ℕ) (fed more : List ℕ) (fault : Fault) (names :
 -- ---- both answers to the same bytes
 
 -- A new decoder is ready over a steady reader that tells its bytes.
-pub fresh_ready : {R E : Type 0} (source : Ghosts R E) (room : ℕ) (strict : Bool) (reader : R) (decoder : Decoder R)
-    (due : List ℕ) → IsFreshAs strict reader 0 decoder → IsTrue (source.steady reader) → source.ahead reader ≡ Some due
+pub fresh_ready : {R E : Type 0} (source : Ghosts R E) (room : ℕ) (allowed : Spelling) (reader : R)
+    (decoder : Decoder R)
+    (due : List ℕ) → IsFreshAs allowed reader 0 decoder → IsTrue (source.steady reader) → source.ahead reader ≡ Some due
     → 8 ≤ room → length due + room < offset_limit → IsReadyToSkip source room decoder due
-fresh_ready source room strict reader decoder due fresh steady ahead wide fits = record {
+fresh_ready source room allowed reader decoder due fresh steady ahead wide fits = record {
   none_waits = λ on. fresh.none_waits;
   steady = rw fresh.reader steady;
   told = rw (fresh.none_waits, fresh.reader) ahead;
@@ -91,9 +93,11 @@ fresh_ready source room strict reader decoder due fresh steady ahead wide fits =
 }
 
 module _ {R E : Type 0} (source : Ghosts R E) (old new : Decoder R) where
-  pub both_answer : (s : Bool) (depth taken : ℕ) (bytes : List ℕ) (fault : Fault) (progress : Progress) (checker : Checker)
+  pub both_answer : (s : Spelling) (depth taken : ℕ) (bytes : List ℕ) (fault : Fault) (progress : Progress)
+      (checker : Checker)
       (result : Result (Unit {0}) (SkipError E)) → HasRead s depth (take taken bytes) checker
-      → ((progress ≡ r.TooLong → ⊥) → Answers checker progress) → old.offset ≡ 0 → strict_of old ≡ s → SkipsTold source (strict_of old) depth bytes old result new
+      → ((progress ≡ r.TooLong → ⊥) → Answers checker progress) → old.offset ≡ 0 → spelling_of old ≡ s
+      → SkipsTold source (spelling_of old) depth bytes old result new
       → progress ≡ r.Fault fault → AnswersFault s depth bytes fault 0 result
   both_answer s depth taken bytes fault progress checker result has_read answers start mode told e =
       let answer = subst (Answers checker) e (answers (λ far. let both = sym e ∙ far in cc)) in
@@ -101,11 +105,12 @@ module _ {R E : Type 0} (source : Ghosts R E) (old new : Decoder R) where
       record { checker = checker; has_read = has_read; answers = answer } in
       let all : take taken bytes ++ drop taken bytes ≡ bytes = take-append-drop taken bytes in
       rw (all, start) at (skip_answers s depth (take taken bytes) (drop taken bytes) fault names source old new result
-      (rw all (subst (λ (z : Bool). SkipsTold source z depth bytes old result new) mode told)))
+      (rw all (subst (λ (z : Spelling). SkipsTold source z depth bytes old result new) mode told)))
 
   -- ---- the answer of a skip that began at the offset 0
 
-  pub skip_tells : (s : Bool) (depth : ℕ) (bytes : List ℕ) (result : Result (Unit {0}) (SkipError E)) → old.offset ≡ 0
+  pub skip_tells : (s : Spelling) (depth : ℕ) (bytes : List ℕ) (result : Result (Unit {0}) (SkipError E))
+      → old.offset ≡ 0
       → SkipsTold source s depth bytes old result new → SkipTells s depth bytes result
   skip_tells s depth bytes (Ok done) start told = told.front
   skip_tells s depth bytes (Err (k.Break at)) start told = (told.fault, omega (arith, told.place, start))
@@ -118,7 +123,7 @@ module _ {R E : Type 0} (source : Ghosts R E) (old new : Decoder R) where
 
 -- ---- the answers of a checker, in terms of all bytes
 
-module _ (s : Bool) (depth taken : ℕ) (bytes : List ℕ) (checker : Checker) (room : length bytes + 1 < 2 ^ 64) where
+module _ (s : Spelling) (depth taken : ℕ) (bytes : List ℕ) (checker : Checker) (room : length bytes + 1 < 2 ^ 64) where
   abbrev fed : List ℕ
   fed = take taken bytes
 

@@ -1,7 +1,9 @@
 -- The fault to which a run leads, if a fault that stops a skip is due.
-use Rattle.std.proofs.Common.{◌≡◌, ℕ, suc, ◌⊎◌, inl, inr, Bool, false, List, [], ◌∷◌, refl, arith, ◌+◌, ◌<◌, ◌%◌, true}
+use Rattle.std.proofs.Common.{◌≡◌, ℕ, suc, ◌⊎◌, inl, inr, false, List, [], ◌∷◌, refl, arith, ◌+◌, ◌<◌, ◌%◌}
 use Rattle.std.proofs.Common.{◌++◌, length, get_or, sym, ap, ◌∙◌, append-nil}
 use Rattle.std.proofs.lemmas.Bool.Decides.{nat_tests}
+use Rattle.ciborium_ll_grammar.specs.declared.spelling.Spelling.{Spelling}
+use Rattle.ciborium_ll_grammar.specs.declared.spelling.Spelling.TheVariants.{Any, Shortest}
 use Rattle.ciborium_ll_grammar.specs.declared.hdr.Header.{Header}
 use Rattle.ciborium_ll_grammar.specs.declared.hdr.Header.TheVariants as h
 use Rattle.ciborium_ll_grammar.specs.Title.{IsTitle, BeginsRefused, IsSmallSimple, affix_len}
@@ -31,7 +33,7 @@ use Rattle.cbor_checker_laws.specs.SameFaults.{HasLongNest}
 
 -- ---- no title
 
-module _ (fault : Fault) (s : Bool) (i : Within) (d : ℕ) (gs : List Level) (a n : ℕ) where
+module _ (fault : Fault) (s : Spelling) (i : Within) (d : ℕ) (gs : List Level) (a n : ℕ) where
   refused_step : (b : ℕ) (next : Spot) (due : List ℕ) → BeginsRefused (b ∷ [])
       → TitleStep (with_byte b (at s i d gs a n)) next → Runs fault next due → fault ≡ f.Syntax n
   refused_step b next due bad (cut is_cut o may) runs = absurd (refused_begins_none b o.0 o.1 bad o.2)
@@ -52,7 +54,7 @@ settled_sound : (gs : List Level) (d : ℕ) (u : Spot)
 settled_sound [] d u = inr refl
 settled_sound (g ∷ gs) d u = let one = settled_sound gs (suc d) u in grind (arith, nat_tests)
 
-module _ (fault : Fault) (s : Bool) (d : ℕ) (gs : List Level) (a n : ℕ) (k : Kind) (j : ℕ) (x : Header) where
+module _ (fault : Fault) (s : Spelling) (d : ℕ) (gs : List Level) (a n : ℕ) (k : Kind) (j : ℕ) (x : Header) where
   -- If the header `x` leads to a fault within a string, this is `Syntax` at the header's place.
   string_known : Faults fault (entered (inside k j) x (at s (inside k j) d gs a n)) → fault ≡ f.Syntax a
   string_known is = grind (arith, nat_tests, settled_sound)
@@ -76,7 +78,7 @@ pub record DeepAt (x : Header) (d : ℕ) (fault : Fault) (a : ℕ) : Type 0 wher
   pub none_left : d ≡ 0
   pub deep : fault ≡ f.Deep a
 
-module _ (fault : Fault) (s : Bool) (gs : List Level) (a n : ℕ) where
+module _ (fault : Fault) (s : Spelling) (gs : List Level) (a n : ℕ) where
   item_known : (d : ℕ) (x : Header) → Faults fault (item_entered x (at s w.Nothing d gs a n))
       → (x ≡ h.Break) ⊎ DeepAt x d fault a
   item_known d x is = grind (arith, nat_tests, settled_sound)
@@ -106,9 +108,9 @@ not_simple : (x : Header) → IsNest x → IsSmallSimple x → ⊥
 not_simple x nest small = grind (arith, nat_tests)
 
 -- A title of one byte is the shortest.
-one_byte : (s : Bool) (b : ℕ) (x : Header) → IsTitle (b ∷ []) x → IsNest x → IsTakenTitle s (b ∷ []) x
-one_byte false b x q nest = tt
-one_byte true b x q nest = elim (shortest_or_longer x (b ∷ []) q) [
+one_byte : (s : Spelling) (b : ℕ) (x : Header) → IsTitle (b ∷ []) x → IsNest x → IsTakenTitle s (b ∷ []) x
+one_byte Any b x q nest = tt
+one_byte Shortest b x q nest = elim (shortest_or_longer x (b ∷ []) q) [
   | inl same ↦ record { shortest = same; meant = not_simple x nest }
   | inr longer ↦ absurd (let some = shortest_some x in omega (arith, longer, some))
 ]
@@ -121,17 +123,17 @@ byte_below : (b : ℕ) → b < 256 → (i : ℕ) → get_or (b ∷ []) i 0 < 256
 byte_below b byte i = grind (arith, nat_tests)
 
 -- A first byte of a longer title also begins a title that is taken.
-some_begins : (s : Bool) (b : ℕ) (m : List ℕ) (x : Header) → b < 256 → IsTitle (b ∷ m) x
+some_begins : (s : Spelling) (b : ℕ) (m : List ℕ) (x : Header) → b < 256 → IsTitle (b ∷ m) x
     → (IsTakenTitle s (b ∷ m) x → ⊥) → 0 < length m → SomeTaken s (b ∷ [])
-some_begins false b m x byte q never some = absurd (never tt)
-some_begins true b m x byte q never some =
+some_begins Any b m x byte q never some = absurd (never tt)
+some_begins Shortest b m x byte q never some =
     let o = announced (b ∷ m) x q in
     let first : o.byte ≡ b = let e = o.is in cc in
     let affix : o.affix ≡ m = let e = o.is in cc in
     let long : length m ≡ affix_len (b % 32) = rw (first, affix) at o.long in
     strict_some (b ∷ []) (byte_below b byte) (omega arith) (omega (arith, long, some)) (begins_none b)
 
-module _ (fault : Fault) (s : Bool) (gs : List Level) (a n : ℕ) where
+module _ (fault : Fault) (s : Spelling) (gs : List Level) (a n : ℕ) where
   deep_step : (b : ℕ) (m : List ℕ) (x : Header) (next : Spot) (due : List ℕ) → IsTitle (b ∷ m) x → IsNest x
       → 0 < length m → SomeTaken s (b ∷ []) → TitleStep (with_byte b (at s w.Nothing 0 gs a n)) next
       → Runs fault next due → fault ≡ f.Deep n
@@ -158,7 +160,7 @@ module _ (fault : Fault) (s : Bool) (gs : List Level) (a n : ℕ) where
       let some = some_begins s b (c ∷ m) x o.is_byte q never (omega arith) in
       deep_step b (c ∷ m) x o.next (c ∷ m ++ rest) q nest (omega arith) some o.step o.runs
 
-pub long_named : (fault : Fault) (s : Bool) (depth : ℕ) (due : List ℕ) → FromStart fault s depth due
+pub long_named : (fault : Fault) (s : Spelling) (depth : ℕ) (due : List ℕ) → FromStart fault s depth due
     → (met : HasLongNest s depth due) → fault ≡ f.Deep (length met.before)
 long_named fault s depth due runs met =
     let o = item_reached _ _ _ _ (met.title ++ met.rest) due 0 met.closable met.item_due runs met.is in

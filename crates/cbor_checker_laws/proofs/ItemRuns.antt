@@ -1,7 +1,8 @@
 -- A run over whole items.
-use Rattle.std.proofs.Common.{◌≡◌, ℕ, suc, ◌+◌, ◌-◌, ◌*◌, ◌<◌, Bool, true, List, [], ◌∷◌, ◌++◌, Some, None, refl, sym}
+use Rattle.std.proofs.Common.{◌≡◌, ℕ, suc, ◌+◌, ◌-◌, ◌*◌, ◌<◌, true, List, [], ◌∷◌, ◌++◌, Some, None, refl, sym}
 use Rattle.std.proofs.Common.{subst, ◌∙◌, arith, append_assoc}
 use Rattle.std.proofs.lemmas.Bool.Decides.{nat_tests}
+use Rattle.ciborium_ll_grammar.specs.declared.spelling.Spelling.{Spelling}
 use Rattle.ciborium_ll_grammar.specs.declared.hdr.Header.{Header}
 use Rattle.ciborium_ll_grammar.specs.declared.hdr.Header.TheVariants as h
 use Rattle.ciborium_ll_grammar.specs.Title.{title_len}
@@ -25,11 +26,11 @@ use Rattle.cbor_checker_laws.proofs.TitleRuns.{taken_on}
 use Rattle.cbor_checker_laws.proofs.StringRuns.{bytes_on, text_on, Inside, break_taken, strings_taken_on}
 
 -- The title of a nest leads into the nest.
-nest_entered : (x : Header) (s : Bool) (d : ℕ) (gs : List Level) (a n : ℕ) → IsNest x
+nest_entered : (x : Header) (s : Spelling) (d : ℕ) (gs : List Level) (a n : ℕ) → IsNest x
     → item_entered x (at s w.Nothing (suc d) gs a n) ≡ settled d (contents x ∷ gs) (at s w.Nothing (suc d) gs a n)
 nest_entered x s d gs a n nest = grind (arith, nat_tests)
 
-module _ (fault : Fault) (all : ℕ) (s : Bool) where
+module _ (fault : Fault) (all : ℕ) (s : Spelling) where
   -- The run is after an item or the title of a nest.
   abbrev pub Behind : ℕ → List Level → List ℕ → Type 0
   Behind d gs due = On fault all (behind s d gs) due

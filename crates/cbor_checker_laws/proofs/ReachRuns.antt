@@ -1,7 +1,9 @@
 -- A run over a beginning of an item, up to the part that is due after it.
-use Rattle.std.proofs.Common.{◌≡◌, ℕ, suc, Bool, true, false, List, [], ◌∷◌, ◌++◌, length, None, refl, ap, ◌∙◌, arith}
+use Rattle.std.proofs.Common.{◌≡◌, ℕ, suc, Bool, false, List, [], ◌∷◌, ◌++◌, length, None, refl, ap, ◌∙◌, arith}
 use Rattle.std.proofs.Common.{append_assoc, length-append}
 use Rattle.std.proofs.lemmas.Bool.Decides.{nat_tests}
+use Rattle.ciborium_ll_grammar.specs.declared.spelling.Spelling.{Spelling}
+use Rattle.ciborium_ll_grammar.specs.declared.spelling.Spelling.TheVariants.{Any, Shortest}
 use Rattle.ciborium_ll_grammar.specs.declared.hdr.Header.TheVariants as h
 use Rattle.ciborium_ll_grammar.specs.Title.{IsTitle, shortest_title}
 use Rattle.ciborium_ll_grammar.specs.Strings.{Kind, Bytes, Text, kind_header}
@@ -28,7 +30,7 @@ abbrev pub can_close : List Level → Bool
 can_close [] = false
 can_close (g ∷ gs) = closes g
 
-module _ (fault : Fault) (all : ℕ) (s : Bool) where
+module _ (fault : Fault) (all : ℕ) (s : Spelling) where
   -- An item to `depth` levels is due, and `closable` says whether a break may stand in its place.
   pub record ItemOn (depth : ℕ) (closable : Bool) (due : List ℕ) : Type 0 where
     pub levels : List Level
@@ -58,44 +60,46 @@ module _ (fault : Fault) (all : ℕ) (s : Bool) where
   first_open Bytes d gs t rest q g o = taken_on (h.Bytes None) t rest q g o
   first_open Text d gs t rest q g o = taken_on (h.Text None) t rest q g o
 
-open_taken : (k : Kind) → IsTakenTitle true (shortest_title (kind_header k None)) (kind_header k None)
+open_taken : (k : Kind) → IsTakenTitle Shortest (shortest_title (kind_header k None)) (kind_header k None)
 open_taken k = grind (arith, nat_tests)
 
 module _ (fault : Fault) (all : ℕ) (k : Kind) (d : ℕ) (gs : List Level) where
   -- The run leads over opens and strings within an open, from a spot at which an open may stand.
   any_inside : {u : List ℕ} {bs : List (List ℕ)} → IsInside k u bs → (From : List ℕ → Type 0) (rest : List ℕ)
       → ((t more : List ℕ) → IsTitle t (kind_header k None) → From (t ++ more)
-      → (j : ℕ) × Inside fault all false d gs k j more)
-      → AreWritable k bs → From (u ++ rest) → (j : ℕ) × Inside fault all false d gs k j rest
+      → (j : ℕ) × Inside fault all Any d gs k j more)
+      → AreWritable k bs → From (u ++ rest) → (j : ℕ) × Inside fault all Any d gs k j rest
   any_inside {bs = bs} (opened {title = t} {strings = z} q are) From rest opens sound o =
       let begun = opens t (z ++ rest) q (rw append_assoc at o) in
-      (begun.0, strings_taken_on fault all false d gs k z bs begun.0 rest are tt sound begun.1)
+      (begun.0, strings_taken_on fault all Any d gs k z bs begun.0 rest are tt sound begun.1)
   any_inside (deeper {inner = i} {bodies = cs} {others = ds} f g) From rest opens sound o =
       let first = any_inside f From (i ++ rest) opens (AreWritable-left k cs ds sound) (rw append_assoc at o) in
-      any_inside g (Inside fault all false d gs k first.0) rest
-      (λ t more q o'. (suc first.0, open_on fault all false d gs k first.0 t more refl q o'))
+      any_inside g (Inside fault all Any d gs k first.0) rest
+      (λ t more q o'. (suc first.0, open_on fault all Any d gs k first.0 t more refl q o'))
       (AreWritable-right k cs ds sound) first.1
 
   -- If only the shortest spelling is taken, the run leads over one open and strings of a definite length.
-  strict_inside : (u rest : List ℕ) (bs : List (List ℕ)) → IsTakenInside true k u bs → AreWritable k bs
-      → On fault all (at true w.Nothing d gs) (u ++ rest) → Inside fault all true d gs k 0 rest
+  strict_inside : (u rest : List ℕ) (bs : List (List ℕ)) → IsTakenInside Shortest k u bs → AreWritable k bs
+      → On fault all (at Shortest w.Nothing d gs) (u ++ rest) → Inside fault all Shortest d gs k 0 rest
   strict_inside u rest bs taken sound o =
       let t = shortest_title (kind_header k None) in
       flat_on fault all d gs k taken.2 0 rest sound
-      (first_open fault all true k d gs t (taken.0 ++ rest) (IsTitle-shortest (kind_header k None) (open_in_range k))
+      (first_open fault all Shortest k d gs t (taken.0 ++ rest)
+      (IsTitle-shortest (kind_header k None) (open_in_range k))
       (open_taken k) (rw (taken.1, append_assoc) at o))
 
-inside_on : (s : Bool) (fault : Fault) (all : ℕ) (k : Kind) (d : ℕ) (gs : List Level) (u rest : List ℕ)
+inside_on : (s : Spelling) (fault : Fault) (all : ℕ) (k : Kind) (d : ℕ) (gs : List Level) (u rest : List ℕ)
     (bs : List (List ℕ)) → IsInside k u bs → IsTakenInside s k u bs → AreWritable k bs
     → On fault all (at s w.Nothing d gs) (u ++ rest) → (j : ℕ) × Inside fault all s d gs k j rest
-inside_on true fault all k d gs u rest bs is taken sound o = (0, strict_inside fault all k d gs u rest bs taken sound o)
-inside_on false fault all k d gs u rest bs is taken sound o =
-    any_inside fault all k d gs is (On fault all (at false w.Nothing d gs)) rest
-    (λ t more q o'. (0, first_open fault all false k d gs t more q tt o')) sound o
+inside_on Shortest fault all k d gs u rest bs is taken sound o =
+    (0, strict_inside fault all k d gs u rest bs taken sound o)
+inside_on Any fault all k d gs u rest bs is taken sound o =
+    any_inside fault all k d gs is (On fault all (at Any w.Nothing d gs)) rest
+    (λ t more q o'. (0, first_open fault all Any k d gs t more q tt o')) sound o
 
 -- ---- after a beginning of all bytes
 
-module _ (fault : Fault) (s : Bool) (depth : ℕ) where
+module _ (fault : Fault) (s : Spelling) (depth : ℕ) where
   -- The run begins before all bytes.
   abbrev pub FromStart : List ℕ → Type 0
   FromStart due = Runs fault (at s w.Nothing depth [] 0 0) due

@@ -1,6 +1,7 @@
 -- From a spot a beginning of some bytes leads to a fault. The proofs take the steps off at the beginning, one by one.
-use Rattle.std.proofs.Common.{◌≡◌, ℕ, ◌+◌, ◌<◌, Bool, true, List, [], ◌∷◌, ◌++◌, length, sym, ap, subst, ◌∙◌}
+use Rattle.std.proofs.Common.{◌≡◌, ℕ, ◌+◌, ◌<◌, true, List, [], ◌∷◌, ◌++◌, length, sym, ap, subst, ◌∙◌}
 use Rattle.std.proofs.Common.{append_assoc}
+use Rattle.ciborium_ll_grammar.specs.declared.spelling.Spelling.{Spelling}
 use Rattle.ciborium_ll_grammar.specs.Strings.{Kind, Bytes, Text}
 use Rattle.cbor_checker_laws.proofs.Levels.{Level}
 use Rattle.cbor_checker.specs.declared.phase.Phase.{Phase}
@@ -20,7 +21,7 @@ pub data Runs (fault : Fault) : Spot → List ℕ → Type 0 where
       → Runs fault spot (byte ∷ due)
 
 -- A run from the spot of a checker that was fed bytes is a run over all bytes.
-pub fed_runs : (fault : Fault) (s : Bool) (d : ℕ) (fed due : List ℕ) (spot : Spot) → IsFed s d fed spot
+pub fed_runs : (fault : Fault) (s : Spelling) (d : ℕ) (fed due : List ℕ) (spot : Spot) → IsFed s d fed spot
     → Runs fault spot due → Runs fault (start s d) (fed ++ due)
 fed_runs fault s d fed due spot fresh runs = runs
 fed_runs fault s d fed due spot (more {bytes = a} {spot = before} b byte is step) runs =
@@ -72,7 +73,7 @@ on_to {fault} {due = due} to' same o = record {
 -- ---- spots without a part of a title
 
 -- A title is due.
-abbrev pub at : Bool → Within → ℕ → List Level → ℕ → ℕ → Spot
+abbrev pub at : Spelling → Within → ℕ → List Level → ℕ → ℕ → Spot
 at s i d gs a n = record (start s d) { within = i; levels = gs; place = a; offset = n }
 
 -- A string of the kind is open, and `n` further strings in it.
@@ -81,11 +82,11 @@ inside Bytes n = w.Bytes n
 inside Text n = w.Text n
 
 -- The spot is after an item, or after the title of a nest.
-abbrev pub behind : Bool → ℕ → List Level → ℕ → ℕ → Spot
+abbrev pub behind : Spelling → ℕ → List Level → ℕ → ℕ → Spot
 behind s d gs a n = settled d gs (at s w.Nothing 0 [] a n)
 
 -- This spot does not depend on the part that was due, the open strings or the nests before.
-pub settled_with : (gs : List Level) (d : ℕ) (s : Bool) (i : Within) (c : ℕ) (fs : List Level) (a n : ℕ)
+pub settled_with : (gs : List Level) (d : ℕ) (s : Spelling) (i : Within) (c : ℕ) (fs : List Level) (a n : ℕ)
     → settled d gs (at s i c fs a n) ≡ behind s d gs a n
 settled_with gs d s i c fs a n =
     settled_alike gs d (at s i 0 [] a n) c fs ∙ settled_anyhow gs d (at s w.Nothing 0 [] a n) p.Title i

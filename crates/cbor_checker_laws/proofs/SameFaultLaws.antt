@@ -1,6 +1,7 @@
 -- The fault that a checker names stops a skip of the same bytes.
-use Rattle.std.proofs.Common.{◌≡◌, ◌⊎◌, ℕ, ◌+◌, ◌-◌, inl, inr, Bool, false, List, [], ◌∷◌, ◌++◌, length, take, Some}
+use Rattle.std.proofs.Common.{◌≡◌, ◌⊎◌, ℕ, ◌+◌, ◌-◌, inl, inr, false, List, [], ◌∷◌, ◌++◌, length, take, Some}
 use Rattle.std.proofs.Common.{refl, subst, ◌∙◌, arith, append_assoc, length-append}
+use Rattle.ciborium_ll_grammar.specs.declared.spelling.Spelling.{Spelling}
 use Rattle.ciborium_ll_grammar.specs.declared.hdr.Header.{Header}
 use Rattle.ciborium_ll_grammar.specs.declared.hdr.Header.TheVariants as h
 use Rattle.ciborium_ll_grammar.specs.Title.{IsTitle, title_len}
@@ -24,7 +25,7 @@ use Rattle.cbor_checker_laws.proofs.StringRuns.{NoText, no_text, break_taken}
 use Rattle.cbor_checker_laws.proofs.ReachRuns.{FromStart, due_reached, item_reached, string_reached, title_reached}
 use Rattle.cbor_checker_laws.proofs.FaultRuns.{no_title, string_title, long_due, nest_deep, break_early}
 
-module _ (fault : Fault) (s : Bool) (depth : ℕ) (due : List ℕ) (runs : FromStart fault s depth due) where
+module _ (fault : Fault) (s : Spelling) (depth : ℕ) (due : List ℕ) (runs : FromStart fault s depth due) where
   abbrev Named : Answer → Type 0
   Named Short = Unit {0}
   Named (Syntax at) = NamesSyntax s depth due at fault

@@ -15,6 +15,8 @@ use Rattle.cbor_checker.specs.Steps.{text_left}
 use Rattle.cbor_checker.proofs.LeadLaws.{between_ends, due_alike, left_alike}
 use Rattle.cbor_checker_laws.proofs.Levels.{Level}
 use Rattle.cbor_checker_laws.proofs.Runs.{Runs, fault_of, next_of, some_due, On, on_to, at, inside}
+use Rattle.ciborium_ll_grammar.specs.declared.spelling.Spelling.{Spelling}
+use Rattle.ciborium_ll_grammar.specs.declared.spelling.Spelling.TheVariants.{Any, Shortest}
 use Rattle.ciborium_ll_grammar.specs.declared.hdr.Header.TheVariants as h
 use Rattle.ciborium_ll_grammar.specs.Title.{IsTitle}
 use Rattle.ciborium_ll_grammar.specs.Strings.{Kind, Bytes, Text, kind_header, IsString, AreStrings, IsWritable}
@@ -41,7 +43,7 @@ one_on : {fault : Fault} {all b : ℕ} {to : ℕ → ℕ → Spot} {rest : List 
     → (o : On fault all to (b ∷ rest)) → Runs fault (to' o.place (o.offset + 1)) rest → On fault all to' rest
 one_on to' o runs = record { place = o.place; offset = o.offset + 1; counts = omega (arith, o.counts); runs = runs }
 
-module _ {fault : Fault} {all : ℕ} (s : Bool) (i : Within) (d : ℕ) (gs : List Level) where
+module _ {fault : Fault} {all : ℕ} (s : Spelling) (i : Within) (d : ℕ) (gs : List Level) where
   -- The run leads over the body of a byte string.
   pub bytes_on : (body rest : List ℕ) → On fault all (λ a n. bytes_due (length body) (at s i d gs a n)) (body ++ rest)
       → On fault all (λ a n. string_done i (at s i d gs a n)) rest
@@ -76,7 +78,7 @@ module _ {fault : Fault} {all : ℕ} (s : Bool) (i : Within) (d : ℕ) (gs : Lis
 
 -- ---- a body that is no text
 
-module _ (fault : Fault) (s : Bool) (i : Within) (d : ℕ) (gs : List Level) (a : ℕ) where
+module _ (fault : Fault) (s : Spelling) (i : Within) (d : ℕ) (gs : List Level) (a : ℕ) where
   -- After a byte there is a fault, or the text goes on.
   next_fails : (may : Bool) (left : ℕ) (to : State) (n : ℕ) (rest : List ℕ)
       → Runs fault (text_left may left to (at s i d gs a n)) rest
@@ -107,10 +109,10 @@ module _ (fault : Fault) (s : Bool) (i : Within) (d : ℕ) (gs : List Level) (a 
 -- ---- strings within an open string
 
 -- The one title of a break is taken.
-pub break_taken : (s : Bool) → IsTakenTitle s (0xff ∷ []) h.Break
+pub break_taken : (s : Spelling) → IsTakenTitle s (0xff ∷ []) h.Break
 break_taken s = grind (arith, nat_tests)
 
-module _ (fault : Fault) (all : ℕ) (s : Bool) (d : ℕ) (gs : List Level) where
+module _ (fault : Fault) (all : ℕ) (s : Spelling) (d : ℕ) (gs : List Level) where
   -- The run is within `j` open strings and one more.
   abbrev pub Inside : Kind → ℕ → List ℕ → Type 0
   Inside k j due = On fault all (at s (inside k j) d gs) due
@@ -126,7 +128,7 @@ module _ (fault : Fault) (all : ℕ) (s : Bool) (d : ℕ) (gs : List Level) wher
       (taken_on (h.Text (Some (length body))) t (body ++ rest) q g o)
 
   -- The run leads over an open.
-  pub open_on : (k : Kind) (j : ℕ) (t rest : List ℕ) → s ≡ false → IsTitle t (kind_header k None)
+  pub open_on : (k : Kind) (j : ℕ) (t rest : List ℕ) → s ≡ Any → IsTitle t (kind_header k None)
       → Inside k j (t ++ rest) → Inside k (suc j) rest
   open_on Bytes j t rest any q o = rw any (taken_on (h.Bytes None) t rest q tt (rw any at o))
   open_on Text j t rest any q o = rw any (taken_on (h.Text None) t rest q tt (rw any at o))
@@ -137,7 +139,7 @@ module _ (fault : Fault) (all : ℕ) (s : Bool) (d : ℕ) (gs : List Level) wher
   close_on Text j rest o = taken_on h.Break (0xff ∷ []) rest break_title (break_taken s) o
 
   -- The run leads over any strings, if any spelling is taken.
-  module _ (k : Kind) (any : s ≡ false) where
+  module _ (k : Kind) (any : s ≡ Any) where
     mutual
       string_on : {u : List ℕ} {bs : List (List ℕ)} → IsString k u bs → (j : ℕ) (rest : List ℕ) → AreWritable k bs
           → Inside k j (u ++ rest) → Inside k j rest
@@ -156,17 +158,17 @@ module _ (fault : Fault) (all : ℕ) (s : Bool) (d : ℕ) (gs : List Level) wher
 
 -- The run leads over strings of a definite length, each under a strict title.
 pub flat_on : (fault : Fault) (all : ℕ) (d : ℕ) (gs : List Level) (k : Kind) {u : List ℕ} {bs : List (List ℕ)}
-    → AreFlat k u bs → (j : ℕ) (rest : List ℕ) → AreWritable k bs → Inside fault all true d gs k j (u ++ rest)
-    → Inside fault all true d gs k j rest
+    → AreFlat k u bs → (j : ℕ) (rest : List ℕ) → AreWritable k bs → Inside fault all Shortest d gs k j (u ++ rest)
+    → Inside fault all Shortest d gs k j rest
 flat_on fault all d gs k no_flat j rest sound o = o
 flat_on fault all d gs k (more_flat {title = t} {body = b} {rest = v} q g f) j rest sound o =
     flat_on fault all d gs k f j rest sound.1
-    (whole_on fault all true d gs k j t b (v ++ rest) q g sound.0 (simp append_assoc at o))
+    (whole_on fault all Shortest d gs k j t b (v ++ rest) q g sound.0 (simp append_assoc at o))
 
 -- The run leads over strings that are taken.
-pub strings_taken_on : (fault : Fault) (all : ℕ) (s : Bool) (d : ℕ) (gs : List Level) (k : Kind) (u : List ℕ)
+pub strings_taken_on : (fault : Fault) (all : ℕ) (s : Spelling) (d : ℕ) (gs : List Level) (k : Kind) (u : List ℕ)
     (bs : List (List ℕ)) (j : ℕ) (rest : List ℕ) → AreStrings k u bs → AreTakenStrings s k u bs → AreWritable k bs
     → Inside fault all s d gs k j (u ++ rest) → Inside fault all s d gs k j rest
-strings_taken_on fault all true d gs k u bs j rest are taken sound o = flat_on fault all d gs k taken j rest sound o
-strings_taken_on fault all false d gs k u bs j rest are taken sound o =
-    strings_on fault all false d gs k refl are j rest sound o
+strings_taken_on fault all Shortest d gs k u bs j rest are taken sound o = flat_on fault all d gs k taken j rest sound o
+strings_taken_on fault all Any d gs k u bs j rest are taken sound o =
+    strings_on fault all Any d gs k refl are j rest sound o

@@ -1,7 +1,8 @@
 -- A run over a title.
-use Rattle.std.proofs.Common.{◌≡◌, ℕ, suc, ◌+◌, Bool, List, [], ◌∷◌, ◌++◌, length, length-append, refl, sym, ap, subst}
+use Rattle.std.proofs.Common.{◌≡◌, ℕ, suc, ◌+◌, List, [], ◌∷◌, ◌++◌, length, length-append, refl, sym, ap, subst}
 use Rattle.std.proofs.Common.{◌∙◌, arith, append_assoc, append-nil}
 use Rattle.std.proofs.lemmas.Bool.Decides.{nat_tests}
+use Rattle.ciborium_ll_grammar.specs.declared.spelling.Spelling.{Spelling}
 use Rattle.ciborium_ll_grammar.specs.declared.hdr.Header.{Header}
 use Rattle.ciborium_ll_grammar.specs.Title.{IsTitle, IsCutTitle}
 use Rattle.ciborium_ll_grammar.specs.Items.{IsTakenTitle}
@@ -39,14 +40,15 @@ entered_moved i x n u = grind (arith, nat_tests, settled_moved, text_moved)
 -- ---- a title
 
 -- The run goes on after a title, or a fault is known before its end, or the title is not taken.
-pub data Titled (fault : Fault) (s : Bool) (i : Within) (d : ℕ) (gs : List Level) (a n : ℕ) (x : Header)
+pub data Titled (fault : Fault) (s : Spelling) (i : Within) (d : ℕ) (gs : List Level) (a n : ℕ) (x : Header)
     (title rest : List ℕ) : Type 0 where
   taken : IsTakenTitle s title x → Runs fault (entered i x (at s i d gs a n)) rest
       → Titled fault s i d gs a n x title rest
   known : (entered i x (at s i d gs a n)).phase ≡ p.Faulted fault → Titled fault s i d gs a n x title rest
   untaken : (IsTakenTitle s title x → ⊥) → fault ≡ f.Syntax a → Titled fault s i d gs a n x title rest
 
-module _ (fault : Fault) (s : Bool) (i : Within) (d : ℕ) (gs : List Level) (a end : ℕ) (x : Header) (t rest : List ℕ)
+module _ (fault : Fault) (s : Spelling) (i : Within) (d : ℕ) (gs : List Level) (a end : ℕ) (x : Header)
+    (t rest : List ℕ)
     (q : IsTitle t x) where
   -- Some bytes of the title came.
   abbrev amid : ℕ → List ℕ → ℕ → Spot
@@ -84,7 +86,7 @@ module _ (fault : Fault) (s : Bool) (i : Within) (d : ℕ) (gs : List Level) (a 
       stepped c (cs ++ b ∷ []) m (n + 1) o.next e' counts' o.step o.runs (later m c (cs ++ b ∷ []) (n + 1) e' counts')
 
 -- A run over a title goes on, meets a fault before its end, or does not take it.
-pub title_run : (fault : Fault) (s : Bool) (i : Within) (d : ℕ) (gs : List Level) (a n : ℕ) (x : Header)
+pub title_run : (fault : Fault) (s : Spelling) (i : Within) (d : ℕ) (gs : List Level) (a n : ℕ) (x : Header)
     (title rest : List ℕ) → IsTitle title x → Runs fault (at s i d gs a n) (title ++ rest)
     → Titled fault s i d gs n (n + length title) x title rest
 title_run fault s i d gs a n x [] rest q runs = absurd (let some = title_some [] x q in omega (arith, some))
@@ -95,7 +97,7 @@ title_run fault s i d gs a n x (b ∷ m) rest q runs =
     (later fault s i d gs n (n + length (b ∷ m)) x (b ∷ m) rest q m b [] (n + 1) refl counts)
 
 -- After a title that is taken, the run goes on.
-pub taken_run : (fault : Fault) (s : Bool) (i : Within) (d : ℕ) (gs : List Level) (a n : ℕ) (x : Header)
+pub taken_run : (fault : Fault) (s : Spelling) (i : Within) (d : ℕ) (gs : List Level) (a n : ℕ) (x : Header)
     (title rest : List ℕ) → IsTitle title x → IsTakenTitle s title x → Runs fault (at s i d gs a n) (title ++ rest)
     → Runs fault (entered i x (at s i d gs n (n + length title))) rest
 taken_run fault s i d gs a n x title rest q g runs =
@@ -105,7 +107,7 @@ taken_run fault s i d gs a n x title rest q g runs =
       | untaken never is ↦ absurd (never g)
     ]
 
-pub taken_on : {fault : Fault} {all : ℕ} {s : Bool} {i : Within} {d : ℕ} {gs : List Level} (x : Header)
+pub taken_on : {fault : Fault} {all : ℕ} {s : Spelling} {i : Within} {d : ℕ} {gs : List Level} (x : Header)
     (title rest : List ℕ) → IsTitle title x → IsTakenTitle s title x → On fault all (at s i d gs) (title ++ rest)
     → On fault all (λ a n. entered i x (at s i d gs a n)) rest
 taken_on {fault} {s = s} {i = i} {d = d} {gs = gs} x title rest q g o = record {

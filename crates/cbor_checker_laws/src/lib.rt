@@ -23,7 +23,7 @@ const BUFFER_SIZE: usize = 64;
 
 /// Returns the answers of [`Checker::feed`] and of [`skip_item`] to the same bytes.
 ///
-/// Both read an item nested at most `depth` levels deep, in its shortest spelling if `strict` holds. The checker takes
+/// Both read an item nested at most `depth` levels deep, in the spelling that is given. The checker takes
 /// a beginning of the bytes, and all of them if more are due.
 ///
 /// If the checker names a fault, the skip answers the same fault at the same place, or that the bytes end too early. A
@@ -31,19 +31,18 @@ const BUFFER_SIZE: usize = 64;
 /// skip the title.
 pub fn feed_and_skip(
     bytes: &[u8],
-    strict: bool,
+    spelling: Spelling,
     depth: usize,
 ) -> (Progress, Result<(), SkipError<EndOfFile>>)
     requires shallow { depth ≤ MOST_LEVELS }
     requires room { length bytes.now + BUFFER_SIZE ≤ usize.MAX }
-    ensures feed_told { FeedTells strict depth bytes.now result.0 }
-    ensures skip_told { SkipTells strict depth bytes.now result.1 }
-    ensures ended { IsEnd result.0 ↔ BeginsWithItem strict depth bytes.now }
-    ensures skipped { IsOk result.1 ↔ BeginsWithItem strict depth bytes.now }
-    ensures faulted { IsFault result.0 ↔ BeginsNoItem strict depth bytes.now }
-    ensures same { (fault : Fault) → result.0 ≡ r.Fault fault → AnswersFault strict depth bytes.now fault 0 result.1 }
+    ensures feed_told { FeedTells spelling depth bytes.now result.0 }
+    ensures skip_told { SkipTells spelling depth bytes.now result.1 }
+    ensures ended { IsEnd result.0 ↔ BeginsWithItem spelling depth bytes.now }
+    ensures skipped { IsOk result.1 ↔ BeginsWithItem spelling depth bytes.now }
+    ensures faulted { IsFault result.0 ↔ BeginsNoItem spelling depth bytes.now }
+    ensures same { (fault : Fault) → result.0 ≡ r.Fault fault → AnswersFault spelling depth bytes.now fault 0 result.1 }
 {
-    let spelling = Spelling::shortest_if(strict);
     let mut checker = Checker::with_spelling(depth, spelling);
     let fed = checker.feed(bytes);
     let mut decoder = Decoder::with_spelling(SliceReader::new(bytes), spelling, 0);

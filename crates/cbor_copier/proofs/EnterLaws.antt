@@ -1,7 +1,7 @@
 -- The spots after a whole title, a whole body and a whole element.
-use Rattle.std.proofs.Common.{◌≡◌, ℕ, zero, suc, ◌+◌, ◌-◌, ◌<◌, ◌≤◌, false, List, [], ◌∷◌, ◌++◌, length, Some, None}
+use Rattle.std.proofs.Common.{◌≡◌, ℕ, zero, suc, ◌+◌, ◌-◌, ◌<◌, ◌≤◌, List, [], ◌∷◌, ◌++◌, length, Some, None}
 use Rattle.std.proofs.Common.{refl, sym, ap, arith, inl, append_assoc, append-nil, le-leb, replicate, length-append}
-use Rattle.std.proofs.Common.{true}
+use Rattle.ciborium_ll_grammar.specs.declared.spelling.Spelling.TheVariants.{Any, Shortest}
 use Rattle.ciborium_ll_grammar.specs.declared.hdr.Header.{Header}
 use Rattle.ciborium_ll_grammar.specs.declared.hdr.Header.TheVariants as h
 use Rattle.ciborium_ll_grammar.specs.Title.{AreBytes, IsTitle, numbered, alone, Other, Small, shortest_title}
@@ -48,23 +48,23 @@ some_due (in_open o some) = some
 -- A title that may not stand there is a fault.
 pub misplaced_fault : {before title ahead : List ℕ} {marks : List Mark} (i : Within) (header : Header) (rest : List ℕ)
     → IsTitle title header → Misplaced i header → ahead ≡ title ++ rest
-    → FirstFault false before marks (place_of i) ahead (Syntax (length before)) (spelling marks) (length title)
+    → FirstFault Any before marks (place_of i) ahead (Syntax (length before)) (spelling marks) (length title)
 misplaced_fault w.Nothing header rest q bad is = absurd bad
 misplaced_fault (w.Open kind more) header rest q bad is = OtherTitle header rest q (inl bad) is
 
 -- A copy that is not strict needs no strict spelling.
-pub lenient : {bytes more : List ℕ} {marks : List Mark} → false ≡ true → IsStrictSpelling bytes marks more
-lenient strict = absurd cc
+pub lenient : {bytes more : List ℕ} {marks : List Mark} → Any ≡ Shortest → IsStrictSpelling bytes marks more
+lenient shortest = absurd cc
 
 pub comes_at : {count consumed : ℕ} {bytes before ahead output written : List ℕ} {marks : List Mark} {at : Point}
     {answer : Answer} → Reaches count before marks at → bytes ≡ before ++ ahead
-    → FirstFault false before marks at ahead answer written consumed → output ≡ written
+    → FirstFault Any before marks at ahead answer written consumed → output ≡ written
     → ComesTo count bytes answer output
 comes_at {count} {bytes = bytes} reach is fault out =
-    let f : HasFault false count bytes = search lenient in record { fault = f; answered = refl; written = sym out }
+    let f : HasFault Any count bytes = search lenient in record { fault = f; answered = refl; written = sym out }
 
-longer : {count : ℕ} {bytes : List ℕ} (more : List ℕ) → BeginsWithElements false count bytes
-    → BeginsWithElements false count (bytes ++ more)
+longer : {count : ℕ} {bytes : List ℕ} (more : List ℕ) → BeginsWithElements Any count bytes
+    → BeginsWithElements Any count (bytes ++ more)
 longer {bytes = bytes} more o =
     let is : bytes ++ more ≡ o.elements ++ (o.rest ++ more) = simp (o.is, append_assoc) in search is
 
@@ -72,7 +72,7 @@ longer {bytes = bytes} more o =
 pub breaks : {place count : ℕ} {bytes output before : List ℕ} {marks : List Mark} {at : Point} (ahead : List ℕ)
     → Reaches count before marks at → bytes ≡ before ++ ahead → (need : ℕ)
     → ((more : List ℕ) → AreBytes more → need ≤ length more → (consumed : ℕ)
-    × FirstFault false before marks at (ahead ++ more) (Syntax place) output consumed) → Broken place count bytes output
+    × FirstFault Any before marks at (ahead ++ more) (Syntax place) output consumed) → Broken place count bytes output
 breaks {place} {count} {bytes} {output} ahead reach is need each =
     let zeros : List ℕ = replicate need 0 in
     let sound = AreBytes-zeros need in
@@ -80,7 +80,7 @@ breaks {place} {count} {bytes} {output} ahead reach is need each =
     let fault : (more : List ℕ) → AreBytes more → need ≤ length more
     → ComesTo count (bytes ++ more) (Syntax place) output =
     λ more are enough. comes_at reach (simp (is, append_assoc)) (each more are enough).1 refl in (
-      λ more are run. no_fault false count _ (rw (append_assoc bytes more) at (longer zeros run))
+      λ more are run. no_fault Any count _ (rw (append_assoc bytes more) at (longer zeros run))
           (fault (more ++ zeros) (AreBytes-append more zeros are sound)
           (omega (arith, long, length-append more zeros))).fault,
       record { more = zeros; more_bytes = sound; comes_to = fault zeros sound (omega (arith, long)) },

@@ -1,5 +1,6 @@
 -- Each answer of a copier comes exactly if it may.
-use Rattle.std.proofs.Common.{◌≡◌, ◌∙◌, ℕ, ◌<◌, ◌↔◌, false, List, [], ◌++◌, length, arith, ap, refl, sym, length-append}
+use Rattle.std.proofs.Common.{◌≡◌, ◌∙◌, ℕ, ◌<◌, ◌↔◌, List, [], ◌++◌, length, arith, ap, refl, sym, length-append}
+use Rattle.ciborium_ll_grammar.specs.declared.spelling.Spelling.TheVariants.{Any}
 use Rattle.ciborium_ll_grammar.specs.Elements.{spelling}
 use Rattle.ciborium_ll_grammar.proofs.ElementLaws.{one_run}
 use Rattle.ciborium_ll_grammar.proofs.StrictFaultLaws.{no_fault}
@@ -12,7 +13,7 @@ module _ (count : ℕ) (bytes : List ℕ) where
   -- If the spelling of the elements is written, no byte of it is pending.
   none_after : (progress : Progress) (output more : List ℕ) → 0 < length more
       → TellsWhole count bytes (output ++ more) progress → AreSpelled count bytes output → ⊥
-  none_after r.More output more some says all = no_fault false count bytes (in_front all.run) says.0.fault
+  none_after r.More output more some says all = no_fault Any count bytes (in_front all.run) says.0.fault
   none_after r.Room output more some says all = says
   none_after r.Ended output more some says all =
       let one = one_run count bytes says.marks says.run bytes [] [] all.marks all.run refl in
@@ -20,19 +21,19 @@ module _ (count : ℕ) (bytes : List ℕ) where
       omega (arith, some, ap (length {A = ℕ}) same, length-append output more)
   none_after (r.Syntax place) output more some says all =
       says.0 [] tt (whole_in_front count bytes [] all.marks all.run)
-  none_after r.TooLong output more some says all = no_fault false count bytes (in_front all.run) says.0.fault
+  none_after r.TooLong output more some says all = no_fault Any count bytes (in_front all.run) says.0.fault
 
   pub end_exact : (output : List ℕ) (progress : Progress) → Tells count bytes output progress
       → IsEnd progress ↔ AreSpelled count bytes output
   end_exact output r.More says =
-      (λ is. absurd is, λ all. no_fault false count bytes (in_front all.run) says.0.fault)
+      (λ is. absurd is, λ all. no_fault Any count bytes (in_front all.run) says.0.fault)
   end_exact output r.Room says =
       (λ is. absurd is, λ all. none_after says.progress output says.pending says.some says.told all)
   end_exact output r.Ended says = (λ is. says, λ all. tt)
   end_exact output (r.Syntax place) says =
       (λ is. absurd is, λ all. says.0 [] tt (whole_in_front count bytes [] all.marks all.run))
   end_exact output r.TooLong says =
-      (λ is. absurd is, λ all. no_fault false count bytes (in_front all.run) says.0.fault)
+      (λ is. absurd is, λ all. no_fault Any count bytes (in_front all.run) says.0.fault)
 
   pub fault_exact : (output : List ℕ) (progress : Progress) → Tells count bytes output progress
       → (IsRoom progress → ⊥) → IsFault progress ↔ NoneGoOn count bytes

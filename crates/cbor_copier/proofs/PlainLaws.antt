@@ -1,6 +1,7 @@
 -- Elements that a copy keeps as they are: the table's entries for first bytes, and the spots that these elements lead
 -- to.
-use Rattle.std.proofs.Common.{◌⊎◌, false, get_or-take, length-drop, ◌^◌, ◌≡◌, ◌≢◌, ℕ, zero, suc, ◌+◌, ◌-◌, ◌*◌, ◌/◌, ◌%◌, ◌<◌, ◌≤◌, Bool, true, List, [], ◌∷◌}
+use Rattle.std.proofs.Common.{◌⊎◌, false, get_or-take, length-drop, ◌^◌, ◌≡◌, ◌≢◌, ℕ, zero, suc, ◌+◌, ◌-◌, ◌*◌, ◌/◌}
+use Rattle.std.proofs.Common.{◌%◌, ◌<◌, ◌≤◌, Bool, true, List, [], ◌∷◌}
 use Rattle.std.proofs.Common.{◌++◌, ◌&&◌, ◌||◌, inl, inr, eqb, ltb, get_or, length, take, drop, slice_index, refl, sym}
 use Rattle.std.proofs.Common.{ap, ◌∙◌, arith, append_assoc, append-nil, length-append, not, Some}
 use Rattle.std.proofs.lemmas.Bool.{agree_below_at}
@@ -11,7 +12,8 @@ use Rattle.ciborium_ll_grammar.specs.declared.hdr.Header.{Header}
 use Rattle.ciborium_ll_grammar.specs.declared.hdr.Header.TheVariants as h
 use Rattle.ciborium_ll_grammar.specs.Title.{IsTitle, Major, Unsigned, Negative, ByteString, TextString, Array, Map, Tag}
 use Rattle.ciborium_ll_grammar.specs.Title.{Other, Small, major_code, numbered, numbered_header, shortest_title}
-use Rattle.ciborium_ll_grammar.specs.Title.{Size, One, Two, Four, Eight, least_size, affix_len, affix_of, alone, first_byte, minor_of, numbered_title, size_limit}
+use Rattle.ciborium_ll_grammar.specs.Title.{Size, One, Two, Four, Eight, least_size, affix_len, affix_of, alone}
+use Rattle.ciborium_ll_grammar.specs.Title.{first_byte, minor_of, numbered_title, size_limit}
 use Rattle.ciborium_ll_grammar.specs.declared.hdr.Minor.TheVariants as m
 use Rattle.ciborium_ll_grammar.specs.Parts.{refused_when_strict}
 use Rattle.ciborium_ll_grammar.proofs.AffixLaws.{refused_affix, title_or_refused}
@@ -143,7 +145,8 @@ string_on : (kind : StringKind) (title body : List ℕ) → Below body → IsPut
     → (count left offset : ℕ) (fed out put : List ℕ)
     → IsFed count (fed ++ title)
     (putting [] (body_due kind (length body) (putting put (bare left offset (offset + length title))))) (out ++ title)
-    → IsFed count (fed ++ (title ++ body)) (elements_due (left - 1) (bare left offset (offset + length (title ++ body))))
+    → IsFed count (fed ++ (title ++ body)) (elements_due (left - 1)
+    (bare left offset (offset + length (title ++ body))))
     (out ++ (title ++ body))
 string_on kind title [] below whole count left offset fed out put led =
     rw (append-nil title) (rw (due_clear (left - 1) left offset (offset + length title) put) at led)
@@ -158,7 +161,13 @@ string_on kind title (x ∷ xs) below whole count left offset fed out put led =
     let gone = body_given kind count n (x ∷ xs) spot new (fed ++ title) (out ++ title) [] (x ∷ xs)
     below refl refl refl (omega arith) (omega arith) whole (rw none refl) refl
     (rw (append-nil ((out ++ title) ++ []), append-nil (out ++ title)) led) in
-    rw (far, ← append_assoc fed title (x ∷ xs), ← append_assoc out title (x ∷ xs), ← due_phase (left - 1) left offset ((offset + m) + n) phase)
+    rw (
+      far,
+      ← append_assoc fed title (x ∷ xs),
+      ← append_assoc out title (x ∷ xs),
+      ← due_phase (left - 1) left offset
+          ((offset + m) + n) phase,
+    )
     (rw (due_none (left - 1) left offset ((offset + m) + n) phase, append-nil ((out ++ title) ++ (x ∷ xs))) at gone)
 
 -- A string whose title is the shortest of its header is kept.
@@ -472,7 +481,8 @@ long_title b n major is at less =
 
 long_kept : (kind : StringKind) (b n : ℕ) (xs : List ℕ) (major : Major) → Below (b ∷ n ∷ xs)
     → major_code major ≡ b / 32 → b % 32 ≡ 24 → 24 ≤ n → n ≤ length xs
-    → numbered_header major One n ≡ string_of kind n → shortest_title (string_of kind n) ≡ numbered_title major (least_size n) n
+    → numbered_header major One n ≡ string_of kind n
+    → shortest_title (string_of kind n) ≡ numbered_title major (least_size n) n
     → IsPutOut kind (take n xs) → IsKept (b ∷ n ∷ take n xs)
 long_kept kind b n xs major below is at least le header short whole =
     let less : n < 256 = below 1 (omega arith) in

@@ -3,6 +3,7 @@ use Rattle.std.proofs.Common.{◌≡◌, ℕ, zero, suc, ◌+◌, ◌-◌, ◌%�
 use Rattle.std.proofs.Common.{length, take, drop, refl, sym, ap, subst, ◌∙◌, arith, inl, inr, append_assoc, append-nil}
 use Rattle.std.proofs.Common.{length-append, length-take-le, take-append-drop}
 use Rattle.std.proofs.Math.Seq.{take-append-add}
+use Rattle.ciborium_ll_grammar.specs.declared.spelling.Spelling.TheVariants.{Any}
 use Rattle.ciborium_ll_grammar.specs.declared.hdr.Header.{Header}
 use Rattle.ciborium_ll_grammar.specs.Title.{IsTitle, IsCutTitle, BeginsRefused, AreBytes, affix_len}
 use Rattle.ciborium_ll_grammar.specs.Strings.{IsWritable}
@@ -70,7 +71,7 @@ continued (first ∷ front) bytes some are are' is_cut long =
     ]
 
 continued_fault : {before front bytes : List ℕ} {marks : List Mark} (i : Within) (o : Continued front bytes)
-    → Misplaced i o.header → FirstFault false before marks (place_of i) (front ++ bytes) (Syntax (length before))
+    → Misplaced i o.header → FirstFault Any before marks (place_of i) (front ++ bytes) (Syntax (length before))
     (spelling marks) (length (front ++ o.more))
 continued_fault i o bad = misplaced_fault i o.header o.rest o.is_title bad (simp (o.is, append_assoc))
 
@@ -107,7 +108,7 @@ module _ (count b : ℕ) (byte : b < 256) (bytes output : List ℕ) (spot : Spot
   sound = front_bytes spot.within (length due.before) spot.place b spot.front byte due.front
 
   broken_title : (need : ℕ) → ((y : List ℕ) → AreBytes y → need ≤ length y → (consumed : ℕ)
-      × FirstFault false due.before due.marks (place_of spot.within) ((spot.front ++ b ∷ []) ++ y)
+      × FirstFault Any due.before due.marks (place_of spot.within) ((spot.front ++ b ∷ []) ++ y)
       (Syntax (length due.before)) (spelling due.marks) consumed)
       → Broken (with_byte b spot).place count (bytes ++ b ∷ []) (output ++ [])
   broken_title need each =

@@ -4,6 +4,7 @@ use Rattle.std.proofs.Common.{◌≡◌, ℕ, zero, suc, true, false, ◌+◌, �
 use Rattle.std.proofs.Common.{length, refl, sym, ap, ◌∙◌, arith, inl, inr, append_assoc, append-nil, length-append}
 use Rattle.std.proofs.Common.{slice_index, drop, length-drop}
 use Rattle.std.proofs.lemmas.Bool.{cases_lt}
+use Rattle.ciborium_ll_grammar.specs.declared.spelling.Spelling.TheVariants.{Any}
 use Rattle.ciborium_ll_grammar.specs.Title.{IsCutTitle, AreBytes, affix_len}
 use Rattle.ciborium_ll_grammar.specs.Strings.{IsWritable}
 use Rattle.ciborium_ll_grammar.specs.Elements.{Mark, IsRun, spelling}
@@ -114,10 +115,11 @@ too_long copier e far count fed given is =
 
 -- Bytes that are `count` elements begin with `count` elements, whatever follows them.
 pub whole_in_front : (count : ℕ) (bytes more : List ℕ) (marks : List Mark) → IsRun count bytes marks
-    → BeginsWithElements false count (bytes ++ more)
+    → BeginsWithElements Any count (bytes ++ more)
 whole_in_front count bytes more marks run = search (lenient, refl {A = List ℕ} {a = bytes ++ more})
 
-pub in_front : {count : ℕ} {bytes : List ℕ} {marks : List Mark} → IsRun count bytes marks → BeginsWithElements false count bytes
+pub in_front : {count : ℕ} {bytes : List ℕ} {marks : List Mark} → IsRun count bytes marks
+    → BeginsWithElements Any count bytes
 in_front {count} {bytes} {marks} run = rw (append-nil bytes) at (whole_in_front count bytes [] marks run)
 
 -- The copy has ended exactly if the bytes are the elements. There is a fault exactly if no elements go on.
@@ -132,7 +134,7 @@ exact_in (p.Faulted place) count bytes output says = (
   ((λ has. says.0), (λ never. tt)),
 )
 exact_in phase count bytes output says = (
-  ((λ has. absurd has), (λ run. no_fault false count bytes (in_front run.1) says.0.fault)),
+  ((λ has. absurd has), (λ run. no_fault Any count bytes (in_front run.1) says.0.fault)),
   ((λ has. absurd has), (λ never. never says.1.more says.1.more_bytes (in_front says.1.run))),
 )
 

@@ -1,6 +1,7 @@
 -- The meaning of a copier's answers for the bytes that it has read and for those that it has written, in the words of
 -- the grammar (RFC 7049, 2.1, 2.2.2 and 3.9).
-use Rattle.std.specs.Prelude.{◌≡◌, ℕ, ◌+◌, ◌<◌, ◌≤◌, ◌^◌, ◌⊎◌, false, List, ◌++◌, length, take}
+use Rattle.std.specs.Prelude.{◌≡◌, ℕ, ◌+◌, ◌<◌, ◌≤◌, ◌^◌, ◌⊎◌, List, ◌++◌, length, take}
+use Rattle.ciborium_ll_grammar.specs.declared.spelling.Spelling.TheVariants.{Any}
 use Rattle.ciborium_ll_grammar.specs.Title.{AreBytes}
 use Rattle.ciborium_ll_grammar.specs.Elements.{Mark, spelling, IsRun}
 use Rattle.ciborium_ll_grammar.specs.Faults.{Answer, Short, Syntax, BeginsWithElements, HasFault}
@@ -20,7 +21,7 @@ pub record AreSpelled (count : ℕ) (bytes output : List ℕ) : Type 0 where
 -- If no more bytes come, a copy of that many elements is at this fault with this output (RFC 7049, 2.1 and 2.2.2). One
 -- element with `61` is at `Short` with the output `61`.
 pub record ComesTo (count : ℕ) (bytes : List ℕ) (answer : Answer) (output : List ℕ) : Type 0 where
-  pub fault : HasFault false count bytes
+  pub fault : HasFault Any count bytes
   pub answered : fault.answer ≡ answer
   pub written : fault.written ≡ output
 
@@ -33,7 +34,7 @@ pub record SomeGoOn (count : ℕ) (bytes : List ℕ) : Type 0 where
 
 -- Whatever bytes follow, that many elements do not stand at the start, as with one and `1c` (RFC 7049, 2.1 and 2.2.2).
 abbrev pub NoneGoOn : ℕ → List ℕ → Type 0
-NoneGoOn count bytes = (more : List ℕ) → AreBytes more → BeginsWithElements false count (bytes ++ more) → ⊥
+NoneGoOn count bytes = (more : List ℕ) → AreBytes more → BeginsWithElements Any count (bytes ++ more) → ⊥
 
 -- With some more bytes, a copy is at the fault of this place with this output (RFC 7049, 2.1 and 2.2.2). One element
 -- with `1c` is at the place 0 without output.

@@ -1,6 +1,7 @@
 //! Elements that a copy keeps as they are, and whose bytes are all there.
 
-ghost use Rattle.std.specs.Prelude.{◌≡◌, ◌+◌, ◌-◌, ◌/◌, ◌<◌, ◌≤◌, ◌⊎◌, List, [], drop, take, length, slice_index, false, true};
+ghost use Rattle.std.specs.Prelude.{◌≡◌, ◌+◌, ◌-◌, ◌/◌, ◌<◌, ◌≤◌, ◌⊎◌, List, [], drop, take, length, slice_index};
+ghost use Rattle.std.specs.Prelude.{false, true};
 ghost use Rattle.ciborium_ll_grammar.specs.Elements.{IsStrictRun, Mark};
 ghost use Rattle.ciborium_ll_text.specs.Text.{IsCharacters};
 ghost use Rattle.cbor_copier.specs.Plain.{AreKept, BeginsLonger, IsKept, IsLen, IsMeantAt};

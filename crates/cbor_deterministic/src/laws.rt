@@ -1,6 +1,7 @@
 //! Laws of the deterministic encoding, each the contract of an empty function, for both orders of keys.
 
 ghost use Rattle.std.specs.Prelude.{◌≡◌, ◌++◌, ℕ, List, true};
+ghost use Rattle.ciborium_ll_grammar.specs.declared.spelling.Spelling.TheVariants.{Shortest};
 ghost use Rattle.ciborium_ll_grammar.specs.Items.{IsItem};
 ghost use Rattle.cbor_deterministic.specs.declared.Order.{Order as AnyOrder};
 ghost use Rattle.cbor_deterministic.specs.declared.Why.{Why as AnyWhy};
@@ -36,7 +37,7 @@ pub fn one_value()
 #[tactic(auto, using(crate::proofs::ItemLaws::well_formed))]
 pub fn is_well_formed()
     ensures { (order : AnyOrder) (depth : ℕ) (bytes : List ℕ) → IsDeterministic order depth bytes
-        → IsItem true depth bytes }
+        → IsItem Shortest depth bytes }
 {}
 
 /// An item in the deterministic encoding is a run of elements in their shortest spelling. So `strict_len` takes all of

@@ -1,6 +1,8 @@
 -- Items that stand in byte strings, and are shown out of memory.
 use Rattle.std.proofs.Common.{◌≡◌, ◌∙◌, ℕ, suc, ◌+◌, ◌-◌, Bool, true, false, List, [], ◌∷◌, ◌++◌, codes}
 use Rattle.std.proofs.Common.{length, Some, Result, Ok, Err, ap, refl, sym, subst, arith, append-nil, length-append}
+use Rattle.ciborium_ll_grammar.specs.declared.spelling.Spelling.{Spelling}
+use Rattle.ciborium_ll_grammar.specs.declared.spelling.Spelling.TheVariants.{Any}
 use Rattle.ciborium_ll.specs.Types.Read.{Ghosts as Reader}
 use Rattle.ciborium_ll.specs.Types.Write.{Ghosts as Writer}
 use Rattle.ciborium_ll.specs.Types.Decoder.{Decoder}
@@ -8,13 +10,13 @@ use Rattle.ciborium_ll.specs.Types.Header.TheVariants as h
 use Rattle.ciborium_ll.specs.Title.{IsInRange}
 use Rattle.ciborium_ll.specs.Strings.{Bytes, definite}
 use Rattle.ciborium_ll.specs.Items.{IsItem}
-use Rattle.ciborium_ll.specs.Decoding.{ReadsPast, strict_of}
+use Rattle.ciborium_ll.specs.Decoding.{ReadsPast, spelling_of}
 use Rattle.ciborium_ll.specs.Encoding.{WritesAll, WritesBytes}
 use Rattle.ciborium_ll.proofs.CopyingTold.{consumes_told}
 use Rattle.ciborium_ll.proofs.ItemLaws.{one_item}
 use Rattle.ciborium_ll.proofs.TitleLaws.{IsTitle-shortest}
 use Rattle.cbor_skip.specs.declared.SkipError.{SkipError}
-use Rattle.cbor_skip.specs.Skipping.{ReadsItem, SkipsItem, strictness}
+use Rattle.cbor_skip.specs.Skipping.{ReadsItem, SkipsItem, allowed_by}
 use Rattle.cbor_skip.specs.SkippingTold.{IsReadyToSkip}
 use Rattle.cbor_skip.proofs.SkippingToldLaws.{skip_exactly}
 use Rattle.cbor_diag.specs.declared.layout.Line.{Line}
@@ -39,14 +41,14 @@ nothing (byte ∷ bytes) none = absurd (omega (arith, none))
 -- ---- the read of an item in memory
 
 module _ {R E : Type 0} (source : Reader R E) (depth : ℕ) (item : List ℕ) (old : Decoder R)
-    (ready : IsReadyToSkip source 64 old item) (mode : strict_of old ≡ false) (is_item : IsItem false depth item) where
+    (ready : IsReadyToSkip source 64 old item) (mode : spelling_of old ≡ Any) (is_item : IsItem Any depth item) where
   -- The read of an item does not stop.
   pub never_stops : (new : Decoder R) (error : SkipError E) → SkipsItem source depth 64 old (Err error) new → ⊥
   never_stops new error stops =
       let ok = (skip_exactly source depth 64 old item ready new (Err error) stops).1 (record {
         item = item;
         rest = [];
-        is_item = subst (λ (b : Bool). IsItem b depth item) (sym mode) is_item;
+        is_item = subst (λ (b : Spelling). IsItem b depth item) (sym mode) is_item;
         is = sym (append-nil item);
       }) in
       absurd cc
@@ -57,7 +59,7 @@ module _ {R E : Type 0} (source : Reader R E) (depth : ℕ) (item : List ℕ) (o
   all_read new read passed reads =
       let gone = consumes_told _ _ item read ready.told passed.consumed in
       let first = consumes_told _ _ item reads.item ready.told reads.passed.consumed in
-      let one = one_item false (strictness old) depth depth item reads.item [] first.0 is_item reads.is_item
+      let one = one_item Any (allowed_by old) depth depth item reads.item [] first.0 is_item reads.is_item
       (append-nil item ∙ first.2) in
       let counted = ap length gone.2 ∙ length-append read gone.0 in
       let none : gone.0 ≡ [] =

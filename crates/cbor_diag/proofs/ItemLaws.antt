@@ -11,7 +11,7 @@ use Rattle.ciborium_ll.specs.Skipping.{SkipsString}
 use Rattle.cbor_skip.specs.declared.SkipError.{SkipError}
 use Rattle.cbor_skip.specs.declared.SkipError.TheVariants as s
 use Rattle.cbor_skip.specs.Due.{IsNest}
-use Rattle.cbor_skip.specs.Skipping.{StopsItem, ReadsWithin, SkipsWithin, strictness}
+use Rattle.cbor_skip.specs.Skipping.{StopsItem, ReadsWithin, SkipsWithin, allowed_by}
 use Rattle.cbor_skip.proofs.ItemSteps.{reads_plain, reads_string, reads_nest, stops_here, stops_nest}
 use Rattle.cbor_diag.specs.declared.DiagError.{DiagError}
 use Rattle.cbor_diag.specs.Showing.{IsWriting, OnReading, OnString, ReadsFrom}
@@ -31,7 +31,7 @@ module _ {R E F : Type 0} (source : Ghosts R E) (outer : Bool) (depth : ℕ) (be
     (steady : IsSteady source before → IsSteady source titled) where
   -- An item that is its header alone was read whole.
   pub scalar_read : (header : Header) (result : Result (Unit {0}) (DiagError E F))
-      → Completes (strictness before) depth header [] → PullsTitle source before header titled → IfErr result IsWriting
+      → Completes (allowed_by before) depth header [] → PullsTitle source before header titled → IfErr result IsWriting
       → OnReading (ItemRead source outer depth before titled) result
   scalar_read header result completes pulled writing =
       reading_whole (ItemRead source outer depth before titled) result (reads_plain source pulled steady completes)

@@ -1,6 +1,7 @@
 -- One title of a string of the indefinite form, and the show of what it begins or ends.
 use Rattle.std.proofs.Common.{◌≡◌, ◌+◌, ◌-◌, ℕ, Bool, true, false, List, [], Some, None, Result, Ok, Err, arith}
 use Rattle.std.proofs.Common.{append-nil, length, subst}
+use Rattle.ciborium_ll_grammar.specs.declared.spelling.Spelling.TheVariants.{Any}
 use Rattle.ciborium_ll.specs.Types.Read.{Ghosts as Reader}
 use Rattle.ciborium_ll.specs.Types.Write.{Ghosts as Writer}
 use Rattle.ciborium_ll.specs.Types.Decoder.{Decoder}
@@ -9,7 +10,7 @@ use Rattle.ciborium_ll.specs.Types.Header.TheVariants as h
 use Rattle.ciborium_ll.specs.Types.Error.TheVariants as e
 use Rattle.ciborium_ll.specs.Strings.{Kind, kind_header}
 use Rattle.ciborium_ll.specs.Faults.{IsRefusedIn}
-use Rattle.ciborium_ll.specs.Decoding.{IsSteady, strict_of}
+use Rattle.ciborium_ll.specs.Decoding.{IsSteady, spelling_of}
 use Rattle.ciborium_ll.specs.Encoding.{WritesAll}
 use Rattle.ciborium_ll.specs.Sides.{Sides, sides}
 use Rattle.ciborium_ll.proofs.DecodingLaws.{ReadsPast-none}
@@ -125,7 +126,7 @@ module _ {R E W F : Type 0} (source : Reader R E) (sink : Writer W F) (k : Kind)
         new) whole.mark shown))
 
     -- An open came.
-    pub next_open : (after : Far) (new : W) → marked.header ≡ kind_header k None → strict_of old ≡ false
+    pub next_open : (after : Far) (new : W) → marked.header ≡ kind_header k None → spelling_of old ≡ Any
         → ShowsText {E = E} sink (Some (lead_text true first)) w (Ok (tt {0})) new → after.opens ≡ opens + 1
         → after.is_first ≡ true
         → ShowsNext source sink k room opens first (sides old w) (Ok after) (sides titled new)
@@ -154,7 +155,7 @@ module _ {R E W F : Type 0} (source : Reader R E) (sink : Writer W F) (k : Kind)
       closes_stops (with_header h.Break is).pulled (rw kind at said)
 
   -- A title came that may not stand there.
-  pub next_other : (place : ℕ) → place ≡ old.offset → IsRefusedIn (strict_of old) k marked.header
+  pub next_other : (place : ℕ) → place ≡ old.offset → IsRefusedIn (spelling_of old) k marked.header
       → ShowsNext source sink k room opens first (sides old w) (Err (d.Read (s.Read (e.Syntax place))))
       (sides titled w)
   next_other place at refused =

@@ -15,7 +15,7 @@ use Rattle.ciborium_ll.specs.Types.Progress.{Progress}
 use Rattle.ciborium_ll.specs.Title.{IsTitle}
 use Rattle.ciborium_ll.specs.Strings.{Kind, kind_header}
 use Rattle.ciborium_ll.specs.Faults.{IsRefusedIn}
-use Rattle.ciborium_ll.specs.Decoding.{DecoderPullAnswer, IsSteady, PullsTitle, ReadsPast, strict_of}
+use Rattle.ciborium_ll.specs.Decoding.{DecoderPullAnswer, IsSteady, PullsTitle, ReadsPast, spelling_of}
 use Rattle.ciborium_ll.specs.Encoding.{WritesAll}
 use Rattle.ciborium_ll.specs.Finishing.{EndsBody}
 use Rattle.ciborium_ll.specs.Segments.{AdvancesFrom, EndsAdvance, PullsOther, in_place}
@@ -25,6 +25,8 @@ use Rattle.ciborium_ll_decoder.proofs.DecodingLaws.{ReadsPast-none, ReadsPast-pu
 use Rattle.ciborium_ll_decoder.proofs.NestLaws.{alone_bytes}
 use Rattle.ciborium_ll_decoder.proofs.SegmentLaws.{IsAmong, so_far_opened}
 use Rattle.ciborium_ll_decoder.proofs.SkipLaws.{SkipsSoFar, skips_body, skips_end, skips_error, skips_stop}
+use Rattle.ciborium_ll_grammar.specs.declared.spelling.Spelling.{Spelling}
+use Rattle.ciborium_ll_grammar.specs.declared.spelling.Spelling.TheVariants.{Any}
 use Rattle.ciborium_ll_grammar.proofs.HaltLaws.{kind_not_misplaced}
 use Rattle.ciborium_ll_grammar.proofs.StepLaws.{add_open, close_inner}
 use Rattle.ciborium_ll.proofs.PiecesWritten.{writes_nothing}
@@ -167,9 +169,9 @@ module _ {R E W F : Type 0} {source : Reader R E} {sink : Writer W F} {k : Kind}
   }
 
 -- A header that may not stand within the string begins no body.
-refused_body : (k : Kind) (strict : Bool) (header : Header) → IsRefusedIn strict k header → (count : ℕ)
+refused_body : (k : Kind) (allowed : Spelling) (header : Header) → IsRefusedIn allowed k header → (count : ℕ)
     → header ≡ kind_header k (Some count) → ⊥
-refused_body k strict header refused count is = grind (arith, kind_not_misplaced)
+refused_body k allowed header refused count is = grind (arith, kind_not_misplaced)
 
 -- ---- the read
 
@@ -186,8 +188,8 @@ module _ {R E : Type 0} (source : Reader R E) (k : Kind) (opened now : Decoder R
     ]
 
     advances : {result : Result (Option Body) (Error E)} {progress : Progress} {new : Decoder R}
-        → EndsAdvance source k (strict_of opened) opens now result progress new
-        → AdvancesFrom source k (strict_of opened) opens now result progress new
+        → EndsAdvance source k (spelling_of opened) opens now result progress new
+        → AdvancesFrom source k (spelling_of opened) opens now result progress new
     advances ends = record {
       nest = [];
       left = opens;
@@ -199,7 +201,7 @@ module _ {R E : Type 0} (source : Reader R E) (k : Kind) (opened now : Decoder R
     }
 
     announces : {len : ℕ} {title : Decoder R} → PullsTitle source now (kind_header k (Some len)) title
-        → EndsAdvance source k (strict_of opened) opens now (Ok (Some (record { length = len; place = now.offset })))
+        → EndsAdvance source k (spelling_of opened) opens now (Ok (Some (record { length = len; place = now.offset })))
         (p.Open opens) title
     announces pulled = record { pulled = pulled; place = refl; after = inr (some, refl) }
 
@@ -208,7 +210,7 @@ module _ {R E : Type 0} (source : Reader R E) (k : Kind) (opened now : Decoder R
         → EndsBody source k [] len room now.offset title (Ok (tt {0})) new
         → SkipsSoFar source k None opened (p.Open opens) new
     read_string room {len} {title} {new} pulled steady ends =
-        skips_body source k (strict_of opened) None room opened now title new (p.Open opens) (p.Open opens)
+        skips_body source k (spelling_of opened) None room opened now title new (p.Open opens) (p.Open opens)
         (record { length = len; place = now.offset }) refl far steady ends.passed.steady
         (advances (announces pulled)) ends
 
@@ -217,11 +219,11 @@ module _ {R E : Type 0} (source : Reader R E) (k : Kind) (opened now : Decoder R
         → EndsBody source k [] len room now.offset title (Err error) new
         → SkipsString source k None room opened (Err error) new
     read_stops room {len} {title} {new} error pulled steady ends =
-        skips_stop source k (strict_of opened) None room opened now title new (p.Open opens) (p.Open opens)
+        skips_stop source k (spelling_of opened) None room opened now title new (p.Open opens) (p.Open opens)
         (record { length = len; place = now.offset }) error refl far steady (advances (announces pulled)) ends
 
     read_open : {title : Decoder R} → PullsTitle source now (kind_header k None) title
-        → (IsSteady source now → IsSteady source title) → strict_of now ≡ false
+        → (IsSteady source now → IsSteady source title) → spelling_of now ≡ Any
         → SkipsSoFar source k None opened (p.Open (suc opens)) title
     read_open {title} pulled steady loose =
         let a = among in
@@ -252,15 +254,15 @@ module _ {R E : Type 0} (source : Reader R E) (k : Kind) (opened now : Decoder R
         → (IsSteady source now → IsSteady source new) → DecoderPullAnswer source now (Err error) new
         → SkipsString source k None room opened (Err error) new
     read_none room new (e.Io fault) less steady fails =
-        skips_error source k (strict_of opened) None room opened now new (p.Open opens) (p.Open opens) (e.Io fault)
+        skips_error source k (spelling_of opened) None room opened now new (p.Open opens) (p.Open opens) (e.Io fault)
         less refl
         far steady (advances (fails, refl))
     read_none room new (e.Syntax place) less steady fails =
-        skips_error source k (strict_of opened) None room opened now new (p.Open opens) (p.Damaged place)
+        skips_error source k (spelling_of opened) None room opened now new (p.Open opens) (p.Damaged place)
         (e.Syntax place)
         less refl far steady (advances (inl (fails, refl)))
     read_none room new e.TooLong less steady fails =
-        skips_error source k (strict_of opened) None room opened now new (p.Open opens) (p.Open opens) e.TooLong
+        skips_error source k (spelling_of opened) None room opened now new (p.Open opens) (p.Open opens) e.TooLong
         less refl
         far steady (advances (inl (fails, refl)))
     read_none room new e.Waiting less steady fails = absurd fails
@@ -268,11 +270,11 @@ module _ {R E : Type 0} (source : Reader R E) (k : Kind) (opened now : Decoder R
     -- If a title came that may not stand there, the read stops.
     read_other : (room : ℕ) (new : Decoder R) (place : ℕ) → new.offset < 2 ^ 64
         → (IsSteady source now → IsSteady source new)
-        → PullsOther source (IsRefusedIn (strict_of now) k) now place new
+        → PullsOther source (IsRefusedIn (spelling_of now) k) now place new
         → SkipsString source k None room opened (Err (e.Syntax place)) new
     read_other room new place less steady found =
         let refused = rw among.passed.mode at found.refused in
-        skips_error source k (strict_of opened) None room opened now new (p.Open opens) (p.Damaged place)
+        skips_error source k (spelling_of opened) None room opened now new (p.Open opens) (p.Damaged place)
         (e.Syntax place)
         less refl far steady (advances (inr (record {
           other = record {
@@ -319,7 +321,7 @@ module _ {R E : Type 0} (source : Reader R E) (k : Kind) (opened now : Decoder R
   read_last : (room : ℕ) {title : Decoder R} → ReadFar (suc zero) → PullsTitle source now h.Break title
       → (IsSteady source now → IsSteady source title) → SkipsString source k None room opened (Ok (tt {0})) title
   read_last room {title} far pulled steady =
-      skips_end source k (strict_of opened) None room opened now title (p.Open 1) p.Ended refl far steady
+      skips_end source k (spelling_of opened) None room opened now title (p.Open 1) p.Ended refl far steady
       (advances {opens = suc zero} (omega arith) far (record { pulled = pulled; last = refl; after = refl }))
 
 -- ---- the loop over titles

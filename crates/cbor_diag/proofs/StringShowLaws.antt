@@ -1,6 +1,7 @@
 -- The show of a string, segment by segment.
 use Rattle.std.proofs.Common.{arith, ◌≡◌, ℕ, Bool, true, false, List, [], ◌∷◌, ◌++◌, Option, Some, None, Result, Ok}
 use Rattle.std.proofs.Common.{Err, refl, sym, append_assoc, append-nil}
+use Rattle.ciborium_ll_grammar.specs.declared.spelling.Spelling.{Spelling}
 use Rattle.ciborium_ll.specs.Types.Read.{Ghosts as Reader}
 use Rattle.ciborium_ll.specs.Types.Write.{Ghosts as Writer}
 use Rattle.ciborium_ll.specs.Types.Header.{Header}
@@ -57,13 +58,14 @@ push_some (b ∷ bs) body = refl
 -- ---- one step of the read
 
 -- A header that a string refuses begins no body.
-no_body : (k : Kind) (strict : Bool) (opens : ℕ) (header : Header) → IsRefusedAt strict k opens header → (count : ℕ)
+no_body : (k : Kind) (allowed : Spelling) (opens : ℕ) (header : Header) → IsRefusedAt allowed k opens header
+    → (count : ℕ)
     → header ≡ kind_header k (Some count) → ⊥
-no_body k strict opens header refused count is = grind (arith, not_break, kind_not_misplaced)
+no_body k allowed opens header refused count is = grind (arith, not_break, kind_not_misplaced)
 
-module _ {R E : Type 0} {source : Reader R E} (k : Kind) (strict : Bool) where
+module _ {R E : Type 0} {source : Reader R E} (k : Kind) (allowed : Spelling) where
   meets : (left : ℕ) (between new : Decoder R) (error : Error E) (progress : Progress)
-      → EndsAdvance source k strict left between (Err error) progress new → MeetsNoBody source k between error new
+      → EndsAdvance source k allowed left between (Err error) progress new → MeetsNoBody source k between error new
   meets left between new error progress ends = grind (arith, no_body)
 
   module _ {opened now new : Decoder R} {bodies : List (List ℕ)} {progress : Progress} (progress' : Progress)
@@ -71,10 +73,10 @@ module _ {R E : Type 0} {source : Reader R E} (k : Kind) (strict : Bool) where
     -- If the title of a body came, the bytes so far end with it.
     pub titled : (len : Option ℕ) (body : Body)
         → ReadSoFar source k len (shortest_title (kind_header k len)) opened bodies progress now
-        → AdvancesTo source k strict progress now (Ok (Some body)) progress' new
+        → AdvancesTo source k allowed progress now (Ok (Some body)) progress' new
         → (behind : List ℕ) × IsTitled k len behind bodies body.length × ReadsPast source opened behind new
     titled None body so_far advances =
-        let all = advanced source k strict steady (Ok (Some body)) so_far advances in
+        let all = advanced source k allowed steady (Ok (Some body)) so_far advances in
         let strings = all.has.strings in
         let pulled = all.ends.pulled in (
           strings ++ pulled.title,
@@ -82,17 +84,17 @@ module _ {R E : Type 0} {source : Reader R E} (k : Kind) (strict : Bool) where
           ReadsPast-pulled source opened all.between new strings _ pulled all.has.passed all.steady,
         )
     titled (Some len) body so_far advances =
-        let lone = lone_titled source k strict len body so_far advances in
+        let lone = lone_titled source k allowed len body so_far advances in
         ([], (refl, lone.0, lone.1), lone.3)
 
     -- If no title came, the bytes so far begin the string, and the decoder meets no body.
     pub untitled : (len : Option ℕ) (error : Error E)
         → ReadSoFar source k len (shortest_title (kind_header k len)) opened bodies progress now
-        → AdvancesTo source k strict progress now (Err error) progress' new
+        → AdvancesTo source k allowed progress now (Err error) progress' new
         → (between : Decoder R) × (behind : List ℕ) × BeginsBodies k len behind bodies
         × ReadsPast source opened behind between × MeetsNoBody source k between error new
     untitled None error so_far advances =
-        let all = advanced source k strict steady (Err error) so_far advances in (
+        let all = advanced source k allowed steady (Err error) so_far advances in (
           all.between,
           all.has.strings,
           counted k all.left _ bodies all.has.within,
@@ -100,7 +102,7 @@ module _ {R E : Type 0} {source : Reader R E} (k : Kind) (strict : Bool) where
           meets all.left all.between new error progress' all.ends,
         )
     untitled (Some len) error so_far advances =
-        absurd (grind (arith, lone_advanced source k strict len (Err error) so_far advances))
+        absurd (grind (arith, lone_advanced source k allowed len (Err error) so_far advances))
 
 -- ---- the loop over segments
 
@@ -133,17 +135,17 @@ module _ {R E W F : Type 0} (source : Reader R E) (sink : Writer W F) (k : Kind)
   closes mark room new last (Err (d.Write fault)) reads said = at_end reads said
 
 module _ {R E W F : Type 0} {source : Reader R E} {sink : Writer W F} {k : Kind} {quotes : Quotes} {len : Option ℕ}
-    {opened : Decoder R} {w w' : W} {first : Bool} {progress : Progress} {now : Decoder R} (strict : Bool)
+    {opened : Decoder R} {w w' : W} {first : Bool} {progress : Progress} {now : Decoder R} (allowed : Spelling)
     (so_far : TextSoFar source sink k quotes len opened w first progress now w') (new : Decoder R)
     (steady : IsSteady source now → IsSteady source new) (progress' : Progress) (is_open : Bool)
     (form : is_open ≡ is_indefinite len) where
   -- If the string has ended, the write of its end decides the answer.
   pub text_closed : (mark : Mark) (room : ℕ) (result : Result (Unit {0}) (DiagError E F)) (last : W)
-      → AdvancesTo source k strict progress now (Ok None) progress' new
+      → AdvancesTo source k allowed progress now (Ok None) progress' new
       → ShowsText sink (Some (end_text is_open quotes mark first)) w' result last
       → ShowsString source sink k quotes len mark room (sides opened w) result (sides new last)
   text_closed mark room result last advances said =
-      let whole = read_whole source k strict _ opened now new so_far.bodies progress progress' steady len so_far.far
+      let whole = read_whole source k allowed _ opened now new so_far.bodies progress progress' steady len so_far.far
       advances in
       closes source sink k quotes len opened w mark room new last result (record {
         behind = whole.behind;
@@ -153,10 +155,11 @@ module _ {R E W F : Type 0} {source : Reader R E} {sink : Writer W F} {k : Kind}
       }) (said_then so_far.written _ last result (rw (form, so_far.is_first) at said))
 
   -- If no title came, the show of the string stops there.
-  pub text_fails : (mark : Mark) (room : ℕ) (error : Error E) → AdvancesTo source k strict progress now (Err error) progress' new
+  pub text_fails : (mark : Mark) (room : ℕ) (error : Error E)
+      → AdvancesTo source k allowed progress now (Err error) progress' new
       → StringStops source sink k quotes len mark room (sides opened w) error (sides new w')
   text_fails mark room error advances =
-      let none = untitled k strict progress' steady len error so_far.far advances in
+      let none = untitled k allowed progress' steady len error so_far.far advances in
       at_title none.0 (record {
         behind = none.1;
         bodies = so_far.bodies;
@@ -165,21 +168,21 @@ module _ {R E W F : Type 0} {source : Reader R E} {sink : Writer W F} {k : Kind}
         written = so_far.written;
       }) none.4
 
-  module _ (body : Body) (advances : AdvancesTo source k strict progress now (Ok (Some body)) progress' new) where
+  module _ (body : Body) (advances : AdvancesTo source k allowed progress now (Ok (Some body)) progress' new) where
     -- If the writer fails before a body, the show of the string ends there.
     pub text_unled : (mark : Mark) (room : ℕ) (error : DiagError E F) (lead : W)
         → ShowsText sink (Some (lead_text is_open first)) w' (Err error) lead
         → ShowsString source sink k quotes len mark room (sides opened w) (Err error) (sides new lead)
     text_unled mark room (d.Read error) lead said = absurd said
     text_unled mark room (d.Write fault) lead said =
-        let here = titled k strict progress' steady len body so_far.far advances in
+        let here = titled k allowed progress' steady len body so_far.far advances in
         at_lead here.0 so_far.bodies body.length here.1 here.2
         (wrote_first so_far.written fault (rw (form, so_far.is_first) at said))
 
     module _ (lead : W) (led : WritesAll sink w' (lead_text is_open first) lead) where
       due : (mark : Mark) → BodyAnnounced source sink k quotes len mark body.length (sides opened w) (sides new lead)
       due mark =
-          let here = titled k strict progress' steady len body so_far.far advances in
+          let here = titled k allowed progress' steady len body so_far.far advances in
           record {
             behind = here.0;
             bodies = so_far.bodies;
@@ -206,7 +209,7 @@ module _ {R E W F : Type 0} {source : Reader R E} {sink : Writer W F} {k : Kind}
           record {
             bodies = so_far.bodies ++ read ∷ [];
             is_first = sym (push_some so_far.bodies read);
-            far = read_more source k strict _ opened now new so_far.bodies progress progress' steady len body ended
+            far = read_more source k allowed _ opened now new so_far.bodies progress progress' steady len body ended
                 so_far.far advances shown.ends;
             written = rw (bodies_text-push (is_indefinite len) quotes so_far.bodies read)
                 (wrote_both (wrote_both so_far.written (rw (form, so_far.is_first) at led)) shown.written);

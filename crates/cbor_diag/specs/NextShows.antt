@@ -1,5 +1,7 @@
 -- The show of one title of a string of the indefinite form, and of what it begins or ends.
 use Rattle.std.specs.Prelude.{◌≡◌, ℕ, ◌+◌, ◌-◌, Bool, true, false, length, Some, None, Result, Ok, Err}
+use Rattle.ciborium_ll_grammar.specs.declared.spelling.Spelling.{Spelling}
+use Rattle.ciborium_ll_grammar.specs.declared.spelling.Spelling.TheVariants.{Any}
 use Rattle.ciborium_ll.specs.Types.Read.{Ghosts as Reader}
 use Rattle.ciborium_ll.specs.Types.Write.{Ghosts as Writer}
 use Rattle.ciborium_ll.specs.Types.Decoder.{Decoder}
@@ -9,7 +11,7 @@ use Rattle.ciborium_ll.specs.Types.Error.TheVariants as e
 use Rattle.ciborium_ll.specs.Types.Error.{Error}
 use Rattle.ciborium_ll.specs.Strings.{Kind, kind_header}
 use Rattle.ciborium_ll.specs.Faults.{IsRefusedIn}
-use Rattle.ciborium_ll.specs.Decoding.{DecoderPullAnswer, IsSteady, PullsTitle, strict_of}
+use Rattle.ciborium_ll.specs.Decoding.{DecoderPullAnswer, IsSteady, PullsTitle, spelling_of}
 use Rattle.ciborium_ll.specs.Encoding.{WritesAll, WritesFront}
 use Rattle.ciborium_ll.specs.Segments.{PullsOther}
 use Rattle.ciborium_ll.specs.Sides.{Sides, sides}
@@ -24,11 +26,11 @@ use Rattle.cbor_diag.specs.StringShows.{lead_text}
 
 -- What a title of this header begins or ends within a string of the kind (RFC 7049, 2.2.2). A strict decoder takes no
 -- open there. Within `5f` the title `42` begins a string of 2 bytes, and `61` may not stand.
-abbrev pub IsNext : Kind → Bool → Header → Next → Type 0
-IsNext kind strict header (n.String len) = header ≡ kind_header kind (Some len)
-IsNext kind strict header n.Open = (header ≡ kind_header kind None) × (strict ≡ false)
-IsNext kind strict header n.Break = header ≡ h.Break
-IsNext kind strict header n.Other = IsRefusedIn strict kind header
+abbrev pub IsNext : Kind → Spelling → Header → Next → Type 0
+IsNext kind allowed header (n.String len) = header ≡ kind_header kind (Some len)
+IsNext kind allowed header n.Open = (header ≡ kind_header kind None) × (allowed ≡ Any)
+IsNext kind allowed header n.Break = header ≡ h.Break
+IsNext kind allowed header n.Other = IsRefusedIn allowed kind header
 
 -- `ShowsNext opens first old result new`: in a string of the indefinite form the next title was pulled, and what it
 -- begins or ends was shown. `opens` opens are not closed, and `first` says that no string follows the last one. After
@@ -52,7 +54,7 @@ pub data ShowsNext {R E W F : Type 0} (source : Reader R E) (sink : Writer W F) 
   -- An open came, and the text before it was written.
   deepens : {titled : Decoder R} {after : Far} {new : W}
       → PullsTitle source old.decoder (kind_header kind None) titled
-      → (IsSteady source old.decoder → IsSteady source titled) → strict_of old.decoder ≡ false
+      → (IsSteady source old.decoder → IsSteady source titled) → spelling_of old.decoder ≡ Any
       → WritesAll sink old.writer (lead_text true first) new → after.opens ≡ opens + 1 → after.is_first ≡ true
       → ShowsNext source sink kind room opens first old (Ok after) (sides titled new)
   deepens_stops : {titled : Decoder R} {fault : F} {new : W}
@@ -72,6 +74,6 @@ pub data ShowsNext {R E W F : Type 0} (source : Reader R E) (sink : Writer W F) 
       → ShowsNext source sink kind room opens first old (Err (d.Read (s.Read error))) (sides new old.writer)
   -- A title came that may not stand within the string.
   other : {place : ℕ} {new : Decoder R}
-      → PullsOther source (IsRefusedIn (strict_of old.decoder) kind) old.decoder place new
+      → PullsOther source (IsRefusedIn (spelling_of old.decoder) kind) old.decoder place new
       → ShowsNext source sink kind room opens first old (Err (d.Read (s.Read (e.Syntax place))))
       (sides new old.writer)

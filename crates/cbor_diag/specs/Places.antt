@@ -1,6 +1,7 @@
 -- The place of an item in a text, and the byte strings that are shown there as the item that they contain (RFC 8949, 8,
 -- and RFC 8610, G.3).
 use Rattle.std.specs.Prelude.{◌≡◌, ℕ, zero, suc, ◌-◌, ◌==◌, nat_le, nat_lt, Bool, true, false, ◌&&◌, List, Some}
+use Rattle.ciborium_ll_grammar.specs.declared.spelling.Spelling.TheVariants.{Any}
 use Rattle.ciborium_ll.specs.Types.Header.{Header}
 use Rattle.ciborium_ll.specs.Types.Header.TheVariants as h
 use Rattle.ciborium_ll.specs.Items.{IsItem}
@@ -112,4 +113,4 @@ is_held place header = false
 -- A string with this header and this body is shown as the item that its body is. The item may be in any spelling.
 -- `41 00` can be so, and `42 00 00` and `41 82` never are.
 abbrev pub IsEmbedded : Place → Header → List ℕ → Type 0
-IsEmbedded place header body = (is_held place header ≡ true) × IsItem false (place.levels - 1) body
+IsEmbedded place header body = (is_held place header ≡ true) × IsItem Any (place.levels - 1) body

@@ -13,6 +13,7 @@ ghost use Rattle.cbor_diag.specs.Marks.{mark_text};
 ghost use Rattle.cbor_diag.specs.Places.{is_held, place_of};
 ghost use Rattle.cbor_diag.specs.StringShows.{quoted_body};
 ghost use Rattle.cbor_diag.specs.declared.strings.quotes.Quotes.TheVariants.{Hex};
+ghost use Rattle.ciborium_ll_grammar.specs.declared.spelling.Spelling.TheVariants.{Any};
 ghost use Rattle.ciborium_ll_grammar.specs.declared.limits.TheConstants.{MOST_LEVELS};
 
 use crate::DiagError;
@@ -122,7 +123,7 @@ fn show_embedded<W: Write, B: Bodies>(
     line: Line,
     memory: &mut [u8],
 ) -> Result<(), W::Error>
-    requires item { IsItem false depth item.now }
+    requires item { IsItem Any depth item.now }
     requires shallow { line.level + depth ≤ MOST_LEVELS }
     ensures { ShowsInside ⟦<SliceReader<'static> as Read>⟧ W.Write B.strings
         (place_of line B.strings depth (length memory.old)) item.now writer.old result writer.new }

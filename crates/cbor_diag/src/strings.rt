@@ -5,10 +5,10 @@ ghost use Rattle.ciborium_ll.specs.Types.Decoder.{Decoder as AnyDecoder};
 ghost use Rattle.ciborium_ll.specs.Types.Header.TheVariants as Header;
 ghost use Rattle.ciborium_ll.specs.Title.{IsInRange, title_len};
 ghost use Rattle.ciborium_ll.specs.Strings.{Bytes as byte_strings, Text as text_strings, kind_header};
-ghost use Rattle.ciborium_ll.specs.Decoding.{MovesOn, TakesBack, offset_of, strict_of, waiting_of};
+ghost use Rattle.ciborium_ll.specs.Decoding.{MovesOn, TakesBack, offset_of, spelling_of, waiting_of};
 ghost use Rattle.ciborium_ll.specs.Finishing.{EndsBody};
 ghost use Rattle.ciborium_ll.specs.Segments.{IsAtBeginning, progress_of, string_decoder, string_reference};
-ghost use Rattle.ciborium_ll.specs.Segments.{string_strict};
+ghost use Rattle.ciborium_ll.specs.Segments.{string_spelling};
 ghost use Rattle.ciborium_ll.specs.Skipping.{SkipsString};
 ghost use Rattle.ciborium_ll.specs.Sides.{sides};
 ghost use Rattle.cbor_diag.specs.Showing.{IsWriting, OnString, ShowsText};
@@ -131,7 +131,7 @@ fn show_segments<R: Read, W: Write, P: Chunked>(
     requires kind { quotes ≡ kind_quotes P.kind }
     ensures reads { (opened : AnyDecoder R) (len : Option ℕ) → IsInRange (kind_header P.kind len)
         → waiting_of opened ≡ None → TakesBack R.Read opened (kind_header P.kind len) (string_decoder segments.old)
-        → string_strict segments.old ≡ strict_of opened
+        → string_spelling segments.old ≡ spelling_of opened
         → OnString (λ answer. SkipsString R.Read P.kind len BUFFER_SIZE opened answer (string_decoder segments.new)) result }
     ensures moves_on { MovesOn R.Read (string_decoder segments.old) (string_decoder segments.new) }
     ensures text { (opened : AnyDecoder R) (len : Option ℕ) → IsInRange (kind_header P.kind len)
@@ -213,7 +213,7 @@ fn show_body<R: Read, W: Write, P: Chunked>(
         (sides (string_decoder segments.old) writer.old) result (sides (string_decoder segments.new) writer.new) }
     ensures same_reference { string_reference segments.new ≡ string_reference segments.old }
     ensures progress { progress_of segments.new ≡ progress_of segments.old }
-    ensures mode { string_strict segments.new ≡ string_strict segments.old }
+    ensures mode { string_spelling segments.new ≡ string_spelling segments.old }
     ensures moves_on { MovesOn R.Read (string_decoder segments.old) (string_decoder segments.new) }
 {
     say::<R::Error, W>(writer, quotes.opening())?;
@@ -238,7 +238,7 @@ fn copy_quoted<R: Read, W: Write, P: Chunked>(
         (sides (string_decoder segments.old) writer.old) result (sides (string_decoder segments.new) writer.new) }
     ensures same_reference { string_reference segments.new ≡ string_reference segments.old }
     ensures progress { progress_of segments.new ≡ progress_of segments.old }
-    ensures mode { string_strict segments.new ≡ string_strict segments.old }
+    ensures mode { string_spelling segments.new ≡ string_spelling segments.old }
     ensures moves_on { MovesOn R.Read (string_decoder segments.old) (string_decoder segments.new) }
 {
     let mut quoted = Quoted::new(writer, quotes);

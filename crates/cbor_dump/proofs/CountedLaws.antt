@@ -1,6 +1,7 @@
 -- The reads of `skip_items`: items, one after the other, and the bytes that follow them.
-use Rattle.std.proofs.Common.{◌≡◌, ℕ, ◌<◌, Bool, List, ◌++◌, Result, Ok, Err, IsOk, ◌↔◌, refl, sym, subst}
+use Rattle.std.proofs.Common.{◌≡◌, ℕ, ◌<◌, List, ◌++◌, Result, Ok, Err, IsOk, ◌↔◌, refl, sym, subst}
 use Rattle.std.proofs.Common.{◌∙◌, arith}
+use Rattle.ciborium_ll_grammar.specs.declared.spelling.Spelling.{Spelling}
 use Rattle.ciborium_ll.specs.Types.Read.{Ghosts}
 use Rattle.ciborium_ll.specs.Types.Decoder.{Decoder}
 use Rattle.ciborium_ll.specs.Items.{AreItems, more_items, no_items}
@@ -11,14 +12,14 @@ use Rattle.cbor_skip.specs.Skipping.{ReadsCounted, SkipsItem, SkipsCounted, Stop
 use Rattle.cbor_skip.specs.SkippingTold.{IsReadyToSkip}
 use Rattle.cbor_skip.proofs.ItemSteps.{item_of}
 use Rattle.cbor_skip.proofs.SkippingToldLaws.{skip_exactly}
-use Rattle.ciborium_ll.specs.Decoding.{strict_of}
+use Rattle.ciborium_ll.specs.Decoding.{spelling_of}
 use Rattle.cbor_dump.specs.Counted.{BeginsWithItems, SkipsAllItems, SkipsFewItems, SkipsItemsTold}
 use Rattle.cbor_dump.specs.Sequences.{ReadsItems}
 use Rattle.cbor_dump.proofs.ItemRows.{item_apart}
 use Rattle.cbor_dump.proofs.SequenceLaws.{behind, items_ready, met_behind}
 
 -- If the same bytes begin with some items and with more items, one more item follows the first ones.
-pub fewer_meet : (b : Bool) (d n : ℕ) (w : List ℕ) → AreItems b d n w → (m : ℕ) (u : List ℕ) → AreItems b d m u
+pub fewer_meet : (b : Spelling) (d n : ℕ) (w : List ℕ) → AreItems b d n w → (m : ℕ) (u : List ℕ) → AreItems b d m u
     → (r s : List ℕ) → u ++ r ≡ w ++ s → n < m → BeginsWithItem b d s
 fewer_meet b d n w no_items m u no_items r s e few = absurd (omega (arith, few))
 fewer_meet b d n w no_items m u (more_items {title = t} {rest = q} {others = a} {header = x} p g c i) r s e few =
@@ -95,7 +96,7 @@ module _ {R E : Type 0} (source : Ghosts R E) where
           ahead = c.ahead;
           are_items = items_ready source depth room old due ready stops.before stops.between reads;
           is = c.parts;
-          no_item = λ front. (let ok = exactly.1 (subst (λ (b : Bool). BeginsWithItem b depth c.ahead)
+          no_item = λ front. (let ok = exactly.1 (subst (λ (b : Spelling). BeginsWithItem b depth c.ahead)
               (sym stops.passed.mode) front) in absurd cc);
           between = stops.between;
           at = stops.passed.offset;
@@ -109,15 +110,15 @@ module _ {R E : Type 0} (source : Ghosts R E) where
 
     exactly_told : (count : ℕ) (new : Decoder R) (result : Result (Unit {0}) (SkipError E))
         → SkipsItemsTold source count depth due old result new
-        → IsOk result ↔ BeginsWithItems (strict_of old) depth count due
+        → IsOk result ↔ BeginsWithItems (spelling_of old) depth count due
     exactly_told count new (Ok done) told = (λ ok. told.front, λ is. refl)
     exactly_told count new (Err error) told = (
       λ ok. absurd cc,
-      λ is. absurd (told.no_item (fewer_meet (strict_of old) depth told.few told.before told.are_items count is.items
+      λ is. absurd (told.no_item (fewer_meet (spelling_of old) depth told.few told.before told.are_items count is.items
           is.are_items is.rest told.ahead (sym is.is ∙ told.is) told.fewer)),
     )
 
     pub counted_exactly : (count : ℕ) (new : Decoder R) (result : Result (Unit {0}) (SkipError E))
         → SkipsCounted source count depth room old result new
-        → IsOk result ↔ BeginsWithItems (strict_of old) depth count due
+        → IsOk result ↔ BeginsWithItems (spelling_of old) depth count due
     counted_exactly count new result counts = exactly_told count new result (counted_told count new result counts)

@@ -1,7 +1,8 @@
 -- The lines of a dump, one after the other.
 use Rattle.std.proofs.lemmas.Bool.Decides.{nat_tests}
 use Rattle.std.proofs.Common.{◌≡◌, ℕ, ◌+◌, List, [], ◌∷◌, ◌++◌, length, Option, refl, sym, ap, subst, ◌∙◌}
-use Rattle.std.proofs.Common.{append_assoc, append-nil, arith, ◌<◌, ◌≤◌, Bool, IfSome}
+use Rattle.std.proofs.Common.{append_assoc, append-nil, arith, ◌<◌, ◌≤◌, IfSome}
+use Rattle.ciborium_ll_grammar.specs.declared.spelling.Spelling.{Spelling}
 use Rattle.ciborium_ll.specs.Types.Read.{Ghosts}
 use Rattle.ciborium_ll.specs.Types.Decoder.{Decoder}
 use Rattle.cbor_dump.specs.Levels.{Line, bytes_of, FitsRow, Stands, AllStand, Ending, Meant}
@@ -87,39 +88,39 @@ abbrev pub HasBytesAtFault : {E : Type 0} → Error E → List ℕ → Type 0
 HasBytesAtFault (e.Syntax at) bytes = 0 < length bytes
 HasBytesAtFault error bytes = Unit {0}
 
-pub title_fault : {E : Type 0} (strict : Bool) (error : Error E) (bytes : List ℕ) → IsTitleRow strict error bytes
+pub title_fault : {E : Type 0} (allowed : Spelling) (error : Error E) (bytes : List ℕ) → IsTitleRow allowed error bytes
     → HasBytesAtFault error bytes
-title_fault strict error bytes p = grind (arith, nat_tests, title_some)
+title_fault allowed error bytes p = grind (arith, nat_tests, title_some)
 
 pub part_fault : {E : Type 0} (kind : Kind) (left : ℕ) (error : Error E) (bytes : List ℕ) → 0 < left
     → IsPartRow kind left error bytes → HasBytesAtFault error bytes
 part_fault kind left error bytes p q = grind (arith, nat_tests, IsCharacters-nil)
 
 -- The row of the bytes that were read before an error ends as the error says.
-pub read_ends : {E : Type 0} (strict : Bool) (error : Error E) (level offset : ℕ) (bytes : List ℕ)
-    → HasBytesAtFault error bytes → EndAs (ending_of strict error) (fault_lines level offset bytes)
-read_ends strict error level offset bytes p = grind (arith, nat_tests)
+pub read_ends : {E : Type 0} (allowed : Spelling) (error : Error E) (level offset : ℕ) (bytes : List ℕ)
+    → HasBytesAtFault error bytes → EndAs (ending_of allowed error) (fault_lines level offset bytes)
+read_ends allowed error level offset bytes p = grind (arith, nat_tests)
 
 -- ---- rows at fault
 
 -- Bytes that were read of a title before an error are a title at fault.
-pub title_row : {E : Type 0} (strict : Bool) (kind : Kind) (opens : ℕ) (error : Error E) (bytes : List ℕ)
-    → IsTitleRow strict error bytes → 0 < length bytes → IsTitleFault (ending_of strict error) kind opens bytes
-title_row strict kind opens error bytes p q = grind (arith, nat_tests)
+pub title_row : {E : Type 0} (allowed : Spelling) (kind : Kind) (opens : ℕ) (error : Error E) (bytes : List ℕ)
+    → IsTitleRow allowed error bytes → 0 < length bytes → IsTitleFault (ending_of allowed error) kind opens bytes
+title_row allowed kind opens error bytes p q = grind (arith, nat_tests)
 
 full_cut : (left : ℕ) (bytes : List ℕ) → IsCutText left bytes → IsFullPart Text left bytes
 full_cut left bytes cut = (let many = cut.many in omega (arith, many), cut.soon)
 
 -- Bytes that were read of a body before an error are a full part of a text at fault.
-pub part_row : {E : Type 0} (strict : Bool) (kind : Kind) (left : ℕ) (error : Error E) (bytes : List ℕ)
+pub part_row : {E : Type 0} (allowed : Spelling) (kind : Kind) (left : ℕ) (error : Error E) (bytes : List ℕ)
     → IsPartRow kind left error bytes → 0 < length bytes
-    → (kind ≡ Text) × IsTextFault (ending_of strict error) left bytes × IsFullPart Text left bytes
-part_row strict kind left error bytes p q = grind (arith, nat_tests, full_cut)
+    → (kind ≡ Text) × IsTextFault (ending_of allowed error) left bytes × IsFullPart Text left bytes
+part_row allowed kind left error bytes p q = grind (arith, nat_tests, full_cut)
 
 -- The bytes that are left after an error are as few as the ending says.
-pub leaves_as : {E : Type 0} (strict : Bool) (error : Error E) (bytes : List ℕ) (known : Option (List ℕ))
-    → IfSome known (LeavesBehind error bytes) → IfSome known (LeavesAs (ending_of strict error) bytes)
-leaves_as strict error bytes known p = grind (arith, nat_tests, IfSome-all)
+pub leaves_as : {E : Type 0} (allowed : Spelling) (error : Error E) (bytes : List ℕ) (known : Option (List ℕ))
+    → IfSome known (LeavesBehind error bytes) → IfSome known (LeavesAs (ending_of allowed error) bytes)
+leaves_as allowed error bytes known p = grind (arith, nat_tests, IfSome-all)
 
 -- A line that has its meaning has no bytes at fault.
 no_fault : (meaning : Meaning) (bytes : List ℕ) → HasMeaning meaning → fault_part meaning bytes ≡ []
@@ -214,42 +215,43 @@ module _ {R E : Type 0} (source : Ghosts R E) where
   }
 
   -- If the dump answers with the error of the read, the lines end as the dump's error says.
-  pub shows_says : {W : Type 0} (strict : Bool) (error : Error E) (why : DumpError E W) (depth start : ℕ)
+  pub shows_says : {W : Type 0} (allowed : Spelling) (error : Error E) (why : DumpError E W) (depth start : ℕ)
       (drawn then_drawn : Option (List Line)) (before bytes : List ℕ) (old new : Decoder R) → SaysFault error why
-      → IsErrorOfItem why → Shows source depth start drawn then_drawn before bytes (ending_of strict error) old new
-      → Shows source depth start drawn then_drawn before bytes (ending_before strict why) old new
-  shows_says strict error why depth start drawn then_drawn before bytes old new p q r =
+      → IsErrorOfItem why → Shows source depth start drawn then_drawn before bytes (ending_of allowed error) old new
+      → Shows source depth start drawn then_drawn before bytes (ending_before allowed why) old new
+  shows_says allowed error why depth start drawn then_drawn before bytes old new p q r =
       grind (arith, nat_tests, ending_of)
 
   -- A row at fault shows the bytes that were read before an error. If no byte was read, there is no row.
-  pub shows_fault : (strict : Bool) (error : Error E) (depth start : ℕ) (drawn then_drawn : Option (List Line))
+  pub shows_fault : (allowed : Spelling) (error : Error E) (depth start : ℕ) (drawn then_drawn : Option (List Line))
       (before : List ℕ) (level offset : ℕ) (row : List ℕ) (old new : Decoder R) → TakesBytes source old row new
       → Draws drawn then_drawn (fault_lines level offset row) → offset ≡ start + length before
-      → (0 < length row → Stands (ending_of strict error) depth before m.Fault
+      → (0 < length row → Stands (ending_of allowed error) depth before m.Fault
       (record { level = level; offset = offset; bytes = row; meaning = m.Fault; within = w.Nothing }))
       → length row ≤ most_bytes → HasBytesAtFault error row
       → (IsSteadyNoneWaiting source old → IfSome (view source new) (LeavesBehind error row))
-      → Shows source depth start drawn then_drawn before row (ending_of strict error) old new
+      → Shows source depth start drawn then_drawn before row (ending_of allowed error) old new
   unfolding lines_one
-  shows_fault strict error depth start drawn then_drawn before level offset [] old new takes draws at stands few some
+  shows_fault allowed error depth start drawn then_drawn before level offset [] old new takes draws at stands few some
       left = record {
         lines = record {
           lines = [];
           drawn = draws;
           stand = tt;
           joined = refl;
-          ends = read_ends strict error level offset [] some;
+          ends = read_ends allowed error level offset [] some;
         };
         takes = takes;
-        left = λ idle. leaves_as strict error [] (view source new) (left idle);
+        left = λ idle. leaves_as allowed error [] (view source new) (left idle);
       }
-  shows_fault strict error depth start drawn then_drawn before level offset (byte ∷ bytes) old new takes draws at stands
+  shows_fault allowed error depth start drawn then_drawn before level offset (byte ∷ bytes) old new takes draws at
+      stands
       few some left = record {
         lines = lines_one depth start drawn then_drawn before _ draws at (omega arith, few) (stands (omega arith))
-            (read_ends strict error level offset (byte ∷ bytes) some);
+            (read_ends allowed error level offset (byte ∷ bytes) some);
         takes = takes;
-        left = λ idle. subst (λ (z : List ℕ). IfSome (view source new) (LeavesAs (ending_of strict error) z))
-            (sym (append-nil (byte ∷ bytes))) (leaves_as strict error (byte ∷ bytes) (view source new) (left idle));
+        left = λ idle. subst (λ (z : List ℕ). IfSome (view source new) (LeavesAs (ending_of allowed error) z))
+            (sym (append-nil (byte ∷ bytes))) (leaves_as allowed error (byte ∷ bytes) (view source new) (left idle));
       }
 
   -- If no byte was read, no line is added and none is at fault.

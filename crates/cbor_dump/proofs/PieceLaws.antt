@@ -1,9 +1,11 @@
 -- The lines of a string of indefinite length after its open.
 use Rattle.std.proofs.Common.{◌≡◌, ℕ, zero, suc, ◌+◌, ◌-◌, ◌^◌, ◌<◌, ◌≤◌, List, [], ◌∷◌, ◌++◌, length}
 use Rattle.std.proofs.Common.{Option, Some, None, refl, sym}
-use Rattle.std.proofs.Common.{ap, subst, ◌∙◌, arith, append-nil, append_assoc, length-append, inl, inr, Bool, true}
-use Rattle.std.proofs.Common.{false, Err, Fits, IfSome, w64}
-use Rattle.std.proofs.lemmas.Bool.{false_from_ne_true}
+use Rattle.std.proofs.Common.{ap, subst, ◌∙◌, arith, append-nil, append_assoc, length-append, inl, inr}
+use Rattle.std.proofs.Common.{Err, Fits, IfSome, w64}
+use Rattle.ciborium_ll_grammar.proofs.SpellingLaws.{either_allowed}
+use Rattle.ciborium_ll_grammar.specs.declared.spelling.Spelling.{Spelling}
+use Rattle.ciborium_ll_grammar.specs.declared.spelling.Spelling.TheVariants.{Any, Shortest}
 use Rattle.ciborium_ll.specs.Types.Read.{Ghosts}
 use Rattle.ciborium_ll.specs.Types.Header.{Header}
 use Rattle.ciborium_ll.specs.Types.Header.TheVariants as h
@@ -53,9 +55,9 @@ open_inside kind (suc opens) parts bodies
     deeper (open_inside kind opens x b o) (opened p are)
 
 -- A header that is no piece, no open and not refused is a break.
-pub only_break : (strict : Bool) (kind : Kind) (header : Header) (part : Part) → IsPart strict kind header part
+pub only_break : (allowed : Spelling) (kind : Kind) (header : Header) (part : Part) → IsPart allowed kind header part
     → ((len : ℕ) → part ≡ p.Piece len → ⊥) → (part ≡ p.Open → ⊥) → (part ≡ p.Other → ⊥) → header ≡ h.Break
-only_break strict kind header part is piece opens other = grind arith
+only_break allowed kind header part is piece opens other = grind arith
 
 -- A break stands one level less deep than the titles that it ends.
 pub break_level : (header : Header) (inner level : ℕ) → header ≡ h.Break → 0 < inner
@@ -81,7 +83,7 @@ level_some level inner above = omega (arith, above)
 
 module _ {R E : Type 0} (source : Ghosts R E) where
   -- All bytes up to here were shown. They end within a string, and the titles in it stand at the level `inner`.
-  pub record Within (strict : Bool) (depth start : ℕ) (drawn then_drawn : Option (List Line)) (nests : List Nest)
+  pub record Within (allowed : Spelling) (depth start : ℕ) (drawn then_drawn : Option (List Line)) (nests : List Nest)
       (items title : List ℕ) (kind : Kind) (inner : ℕ) (old new : Decoder R) : Type 0 where
     pub opens : ℕ
     pub parts : List ℕ
@@ -89,26 +91,26 @@ module _ {R E : Type 0} (source : Ghosts R E) where
     pub bytes : List ℕ
     pub are_open : AreOpen kind (suc opens) parts bodies
     pub sound : AreWritable kind bodies
-    pub taken : AreTakenStrings strict kind bytes bodies
-    pub one : strict ≡ true → opens ≡ zero
+    pub taken : AreTakenStrings allowed kind bytes bodies
+    pub one : allowed ≡ Shortest → opens ≡ zero
     pub level : inner ≡ length nests + suc opens
     pub is : title ++ bytes ≡ parts
     pub shows : Shows source depth start drawn then_drawn (items ++ title) bytes Meant old new
     pub passed : old.waiting ≡ None → ReadsPast source old bytes new
 
-  pub within_first : (strict : Bool) (depth start : ℕ) (drawn : Option (List Line)) (nests : List Nest)
+  pub within_first : (allowed : Spelling) (depth start : ℕ) (drawn : Option (List Line)) (nests : List Nest)
       (items title : List ℕ)
       (kind : Kind) (inner : ℕ) (decoder : Decoder R) → IsTitle title (kind_header kind None)
       → inner ≡ length nests + 1
-      → Within strict depth start drawn drawn nests items title kind inner decoder decoder
-  within_first strict depth start drawn nests items title kind inner decoder p level = record {
+      → Within allowed depth start drawn drawn nests items title kind inner decoder decoder
+  within_first allowed depth start drawn nests items title kind inner decoder p level = record {
     opens = zero;
     parts = title;
     bodies = [];
     bytes = [];
     are_open = add_open kind zero [] title [] none p;
     sound = tt;
-    taken = taken_none strict kind;
+    taken = taken_none allowed kind;
     one = λ on. refl;
     level = level;
     is = append-nil title;
@@ -116,9 +118,9 @@ module _ {R E : Type 0} (source : Ghosts R E) where
     passed = λ idle. ReadsPast-none source decoder;
   }
 
-  module _ {strict : Bool} {depth start : ℕ} {drawn middle : Option (List Line)} {nests : List Nest}
+  module _ {allowed : Spelling} {depth start : ℕ} {drawn middle : Option (List Line)} {nests : List Nest}
       {items title : List ℕ} {kind : Kind} {inner : ℕ} {old between : Decoder R} (stands : StandsWithin depth nests items)
-      (so_far : Within strict depth start drawn middle nests items title kind inner old between)
+      (so_far : Within allowed depth start drawn middle nests items title kind inner old between)
       (begun : old.offset ≡ start + length (items ++ title)) where
     -- The open and the bytes after it are the parts of the string.
     before_is : (items ++ title) ++ so_far.bytes ≡ items ++ so_far.parts
@@ -144,24 +146,24 @@ module _ {R E : Type 0} (source : Ghosts R E) where
     passed_row row new went idle = ReadsPast-then source old between new so_far.bytes row (so_far.passed idle)
         (went (passes_idle source old between so_far.bytes (so_far.passed idle) idle))
 
-    pub alike_here : IsInMode strict old → IsInMode strict between
+    pub alike_here : IsInMode allowed old → IsInMode allowed between
     alike_here alike =
-        passes_alike source strict old between so_far.bytes (so_far.passed alike.none_waits) alike
+        passes_alike source allowed old between so_far.bytes (so_far.passed alike.none_waits) alike
 
     -- A row at fault shows the bytes that were read before an error within a string.
     pub within_fault : (error : Error E) (then_drawn : Option (List Line)) (row : List ℕ) (offset : ℕ)
         (new : Decoder R) → TakesBytes source between row new → offset ≡ between.offset
         → Draws middle then_drawn (fault_lines inner offset row)
-        → (0 < length row → IsTitleFault (ending_of strict error) kind (suc so_far.opens) row)
+        → (0 < length row → IsTitleFault (ending_of allowed error) kind (suc so_far.opens) row)
         → length row ≤ most_bytes → HasBytesAtFault error row
         → (IsSteadyNoneWaiting source between → IfSome (view source new) (LeavesBehind error row))
-        → Shows source depth start drawn then_drawn (items ++ title) (so_far.bytes ++ row) (ending_of strict error) old
+        → Shows source depth start drawn then_drawn (items ++ title) (so_far.bytes ++ row) (ending_of allowed error) old
         new
     unfolding due_within
     within_fault error then_drawn row offset new takes at drawn_fault fault few some left =
         shows_then source depth start drawn middle then_drawn (items ++ title) so_far.bytes row old between new
         so_far.shows
-        (shows_fault source strict error depth start middle then_drawn ((items ++ title) ++ so_far.bytes) inner offset
+        (shows_fault source allowed error depth start middle then_drawn ((items ++ title) ++ so_far.bytes) inner offset
         row between new takes drawn_fault (at ∙ here)
         (λ any. inl (record {
           nests = nests;
@@ -177,13 +179,13 @@ module _ {R E : Type 0} (source : Ghosts R E) where
         (row : List ℕ) (offset : ℕ) (new : Decoder R) → SaysFault error why → IsErrorOfItem why
         → TakesBytes source between row new → offset ≡ between.offset
         → Draws middle then_drawn (fault_lines inner offset row)
-        → (0 < length row → IsTitleFault (ending_of strict error) kind (suc so_far.opens) row)
+        → (0 < length row → IsTitleFault (ending_of allowed error) kind (suc so_far.opens) row)
         → length row ≤ most_bytes → HasBytesAtFault error row
         → (IsSteadyNoneWaiting source between → IfSome (view source new) (LeavesBehind error row))
-        → Shows source depth start drawn then_drawn (items ++ title) (so_far.bytes ++ row) (ending_before strict why)
+        → Shows source depth start drawn then_drawn (items ++ title) (so_far.bytes ++ row) (ending_before allowed why)
         old new
     within_fails error why then_drawn row offset new says taken takes at drawn_fault fault few some left =
-        shows_says source strict error why depth start drawn then_drawn (items ++ title) (so_far.bytes ++ row) old new
+        shows_says source allowed error why depth start drawn then_drawn (items ++ title) (so_far.bytes ++ row) old new
         says taken (within_fault error then_drawn row offset new takes at drawn_fault fault few some left)
 
     -- A row shows a title within the string.
@@ -212,10 +214,10 @@ module _ {R E : Type 0} (source : Ghosts R E) where
 
     -- After a further open, one more open is not closed.
     pub within_open : (then_drawn : Option (List Line)) (row : List ℕ) (new : Decoder R)
-        → strict ≡ false → (between.waiting ≡ None → ReadsPast source between row new)
+        → allowed ≡ Any → (between.waiting ≡ None → ReadsPast source between row new)
         → IsTitle row (kind_header kind None)
         → Shows source depth start drawn then_drawn (items ++ title) (so_far.bytes ++ row) Meant old new
-        → Within strict depth start drawn then_drawn nests items title kind (inner + 1) old new
+        → Within allowed depth start drawn then_drawn nests items title kind (inner + 1) old new
     within_open then_drawn row new any went p shows =
         let level = so_far.level in
         record {
@@ -225,7 +227,7 @@ module _ {R E : Type 0} (source : Ghosts R E) where
           bytes = so_far.bytes ++ row;
           are_open = add_open kind (suc so_far.opens) so_far.parts row so_far.bodies so_far.are_open p;
           sound = so_far.sound;
-          taken = taken_any strict kind (so_far.bytes ++ row) so_far.bodies any;
+          taken = taken_any allowed kind (so_far.bytes ++ row) so_far.bodies any;
           one = λ on. absurd cc;
           level = omega (arith, level);
           is = parts_then row;
@@ -234,16 +236,19 @@ module _ {R E : Type 0} (source : Ghosts R E) where
         }
 
     -- If several opens are not closed, the dump is not strict.
-    several : (opens : ℕ) → so_far.opens ≡ suc opens → strict ≡ false
-    several opens e = false_from_ne_true strict (λ on. let none = so_far.one on in omega (arith, none, e))
+    several : (opens : ℕ) → so_far.opens ≡ suc opens → allowed ≡ Any
+    several opens e = elim (either_allowed allowed) [
+      | inl on ↦ absurd (let none = so_far.one on in omega (arith, none, e))
+      | inr any ↦ any
+    ]
 
     -- A break that closes one of several opens leaves the others open.
-    inner_break : (opens : ℕ) → so_far.opens ≡ suc opens → strict ≡ false → (then_drawn : Option (List Line))
+    inner_break : (opens : ℕ) → so_far.opens ≡ suc opens → allowed ≡ Any → (then_drawn : Option (List Line))
         (row : List ℕ) (level : ℕ) (new : Decoder R)
         → (between.waiting ≡ None → ReadsPast source between row new) → IsTitle row h.Break
         → level ≡ length nests + suc opens
         → Shows source depth start drawn then_drawn (items ++ title) (so_far.bytes ++ row) Meant old new
-        → Within strict depth start drawn then_drawn nests items title kind level old new
+        → Within allowed depth start drawn then_drawn nests items title kind level old new
     inner_break opens e any then_drawn row level new went p same shows = record {
       opens = opens;
       parts = so_far.parts ++ row;
@@ -253,7 +258,7 @@ module _ {R E : Type 0} (source : Ghosts R E) where
           (sym (break_bytes row p)) (close_inner kind opens so_far.parts so_far.bodies
           (subst (λ (n : ℕ). AreOpen kind (suc n) so_far.parts so_far.bodies) e so_far.are_open));
       sound = so_far.sound;
-      taken = taken_any strict kind (so_far.bytes ++ row) so_far.bodies any;
+      taken = taken_any allowed kind (so_far.bytes ++ row) so_far.bodies any;
       one = λ on. absurd cc;
       level = same;
       is = parts_then row;
@@ -265,7 +270,7 @@ module _ {R E : Type 0} (source : Ghosts R E) where
         → (between.waiting ≡ None → ReadsPast source between row new) → IsTitle row h.Break
         → level ≡ title_level h.Break nests (suc so_far.opens) → (level ≡ length nests → ⊥)
         → Shows source depth start drawn then_drawn (items ++ title) (so_far.bytes ++ row) Meant old new
-        → Within strict depth start drawn then_drawn nests items title kind level old new
+        → Within allowed depth start drawn then_drawn nests items title kind level old new
     within_break then_drawn row level new went p same further shows =
         let less : so_far.opens ≡ suc (so_far.opens - 1) = omega (arith, same, further) in
         inner_break (so_far.opens - 1) less (several (so_far.opens - 1) less) then_drawn row level new went p
@@ -274,11 +279,11 @@ module _ {R E : Type 0} (source : Ghosts R E) where
     -- The break that closes the last open ends the string.
     pub within_ends : (row : List ℕ) (level : ℕ) → IsTitle title (kind_header kind None) → IsTitle row h.Break
         → level ≡ title_level h.Break nests (suc so_far.opens) → level ≡ length nests
-        → EndsString strict kind (so_far.bytes ++ row)
+        → EndsString allowed kind (so_far.bytes ++ row)
     within_ends row level q p same last =
         let one : so_far.opens ≡ zero = omega (arith, same, last) in
-        subst (λ (z : List ℕ). EndsString strict kind (so_far.bytes ++ z)) (sym (break_bytes row p))
-        (close_last strict kind title so_far.bytes so_far.parts so_far.bodies
+        subst (λ (z : List ℕ). EndsString allowed kind (so_far.bytes ++ z)) (sym (break_bytes row p))
+        (close_last allowed kind title so_far.bytes so_far.parts so_far.bodies
         (subst (λ (n : ℕ). AreOpen kind (suc n) so_far.parts so_far.bodies) one so_far.are_open) q so_far.is
         so_far.sound so_far.taken)
 
@@ -299,14 +304,14 @@ module _ {R E : Type 0} (source : Ghosts R E) where
         titled new first second)
 
     pub within_whole : (then_drawn : Option (List Line)) (row body : List ℕ) (len : ℕ) (new : Decoder R)
-        → IsTitle row (kind_header kind (Some len)) → IsTakenTitle strict row (kind_header kind (Some len))
+        → IsTitle row (kind_header kind (Some len)) → IsTakenTitle allowed row (kind_header kind (Some len))
         → length body ≡ len → IsWritable kind body
         → (between.waiting ≡ None → ReadsPast source between (row ++ body) new)
         → Shows source depth start drawn then_drawn (items ++ title) (so_far.bytes ++ (row ++ body)) Meant old new
-        → Within strict depth start drawn then_drawn nests items title kind inner old new
+        → Within allowed depth start drawn then_drawn nests items title kind inner old new
     within_whole then_drawn row body len new p g long written went shows =
         let p' = subst (λ (n : ℕ). IsTitle row (kind_header kind (Some n))) (sym long) p in
-        let g' = subst (λ (n : ℕ). IsTakenTitle strict row (kind_header kind (Some n))) (sym long) g in
+        let g' = subst (λ (n : ℕ). IsTakenTitle allowed row (kind_header kind (Some n))) (sym long) g in
         record {
           opens = so_far.opens;
           parts = so_far.parts ++ (row ++ body);
@@ -315,7 +320,7 @@ module _ {R E : Type 0} (source : Ghosts R E) where
           are_open = add_string kind so_far.opens so_far.parts (row ++ body) so_far.bodies (body ∷ []) so_far.are_open
               (definite p');
           sound = AreWritable-append kind so_far.bodies (body ∷ []) so_far.sound (written, tt);
-          taken = taken_then strict kind so_far.bytes row body so_far.bodies so_far.taken p' g';
+          taken = taken_then allowed kind so_far.bytes row body so_far.bodies so_far.taken p' g';
           one = so_far.one;
           level = so_far.level;
           is = parts_then (row ++ body);
@@ -345,7 +350,7 @@ module _ {R E : Type 0} (source : Ghosts R E) where
 
     -- ---- how the read of the string stops
 
-    skips_inside : IsTitle title (kind_header kind None) → IsInMode strict old → SkipsInside source kind old between
+    skips_inside : IsTitle title (kind_header kind None) → IsInMode allowed old → SkipsInside source kind old between
     skips_inside p alike = record {
       behind = so_far.bytes;
       bodies = so_far.bodies;
@@ -353,7 +358,7 @@ module _ {R E : Type 0} (source : Ghosts R E) where
           (alone_bytes title (kind_header kind None) p (open_alone kind))
           (subst (λ (z : List ℕ). IsInside kind z so_far.bodies) (sym so_far.is)
           (open_inside kind so_far.opens so_far.parts so_far.bodies so_far.are_open));
-      taken = subst (λ (mode : Bool). AreTakenStrings mode kind so_far.bytes so_far.bodies) (sym alike.mode)
+      taken = subst (λ (mode : Spelling). AreTakenStrings mode kind so_far.bytes so_far.bodies) (sym alike.mode)
           so_far.taken;
       sound = so_far.sound;
       passed = so_far.passed alike.none_waits;
@@ -371,7 +376,7 @@ module _ {R E : Type 0} (source : Ghosts R E) where
     -- If no title came, the read of the string stops as a skip does.
     pub within_no_title : {W : Type 0} → IsTitle title (kind_header kind None) → (error : Error E)
         (new : Decoder R) → DecoderPullAnswer source between (Err error) new → (why : DumpError E W) → SaysFault error why
-        → IsInMode strict old → StopsBehindTitle source kind None 0 old (Err why) new
+        → IsInMode allowed old → StopsBehindTitle source kind None 0 old (Err why) new
     within_no_title p error new fails (d.Item (s.Read other)) says alike =
         let same : other ≡ error = cc in
         record {
@@ -390,9 +395,9 @@ module _ {R E : Type 0} (source : Ghosts R E) where
 
     -- If a title came that may not stand in the string, the read of the string stops as a skip does.
     pub within_other : {W : Type 0} → IsTitle title (kind_header kind None) → (header : Header)
-        (place : ℕ) (new : Decoder R) → PullsTitle source between header new → IsRefusedIn strict kind header
+        (place : ℕ) (new : Decoder R) → PullsTitle source between header new → IsRefusedIn allowed kind header
         → place ≡ between.offset → (why : DumpError E W) → SaysFault (e.Syntax place) why
-        → IsInMode strict old → StopsBehindTitle source kind None 0 old (Err why) new
+        → IsInMode allowed old → StopsBehindTitle source kind None 0 old (Err why) new
     within_other p header place new pulled refused at (d.Item (s.Read other)) says alike =
         let same : other ≡ e.Syntax place = cc in
         record {
@@ -405,7 +410,7 @@ module _ {R E : Type 0} (source : Ghosts R E) where
                 other = record {
                   header = header;
                   pulled = pulled;
-                  refused = subst (λ (mode : Bool). IsRefusedIn mode kind header) (sym (alike_here alike).mode)
+                  refused = subst (λ (mode : Spelling). IsRefusedIn mode kind header) (sym (alike_here alike).mode)
                       refused;
                   place = at;
                 };
@@ -420,7 +425,7 @@ module _ {R E : Type 0} (source : Ghosts R E) where
         (titled new : Decoder R) → PullsTitle source between (kind_header kind (Some len)) titled
         → (IsSteady source between → IsSteady source titled) → (why : DumpError E W)
         → StopsBehindTitle source kind (Some len) place titled (Err why) new → place ≡ between.offset
-        → IsInMode strict old → StopsBehindTitle source kind None 0 old (Err why) new
+        → IsInMode allowed old → StopsBehindTitle source kind None 0 old (Err why) new
     within_body p len place titled new pulled steady (d.Item (s.Read error)) stops at alike =
         record {
           room = stops.room;

@@ -1,10 +1,11 @@
 -- A title that was read byte by byte, as `pull` reads it.
 use Rattle.std.proofs.lemmas.Bool.Decides.{nat_tests}
-use Rattle.std.proofs.Common.{◌≡◌, ℕ, ◌<◌, ◌%◌, Bool, List, [], ◌∷◌, length, take, Option, Some}
+use Rattle.std.proofs.Common.{◌≡◌, ℕ, ◌<◌, ◌%◌, List, [], ◌∷◌, length, take, Option, Some}
 use Rattle.std.proofs.Common.{None}
 use Rattle.std.proofs.Common.{IfSome, Ok, Err, refl, sym, ap, subst, ◌∙◌, arith}
 use Rattle.std.proofs.KnownBytes.{Consumes-nil}
 use Rattle.std.specs.Io.KnownBytes.{Consumes}
+use Rattle.ciborium_ll_grammar.specs.declared.spelling.Spelling.{Spelling}
 use Rattle.ciborium_ll.specs.Types.Read.{Ghosts}
 use Rattle.ciborium_ll.specs.Types.Header.{Header}
 use Rattle.ciborium_ll.specs.Types.Decoder.{Decoder}
@@ -69,9 +70,9 @@ module _ {R E : Type 0} (source : Ghosts R E) where
       → new.waiting ≡ None
   passes_idle old new bytes passed none = grind (arith, nat_tests)
 
-  pub passes_alike : (strict : Bool) (old new : Decoder R) (bytes : List ℕ) → ReadsPast source old bytes new
-      → IsInMode strict old → IsInMode strict new
-  passes_alike strict old new bytes passed alike = grind (arith, nat_tests, passes_idle)
+  pub passes_alike : (allowed : Spelling) (old new : Decoder R) (bytes : List ℕ) → ReadsPast source old bytes new
+      → IsInMode allowed old → IsInMode allowed new
+  passes_alike allowed old new bytes passed alike = grind (arith, nat_tests, passes_idle)
 
   -- One read of all its bytes passes them.
   pub passes_one : (old new : Decoder R) (bytes : List ℕ) → ReadsAll source old bytes new
@@ -113,17 +114,17 @@ module _ {R E : Type 0} (source : Ghosts R E) where
   reads_none before decoder none = grind (arith, nat_tests, Consumes-nil, append-nil)
 
   -- A first byte and its affix were read into a row. The answer about these bytes is the answer about the row.
-  pub row_means : (strict : Bool) (count : ℕ) (before one row shown : List ℕ) (old between new : Decoder R)
+  pub row_means : (allowed : Spelling) (count : ℕ) (before one row shown : List ℕ) (old between new : Decoder R)
       (result : Option Header) → before ≡ [] → ReadsMore source 1 before one old (Ok tt) between
       → count ≡ affix_len (get_or one 0 0 % 32) → count ≤ 8 → ReadsMore source count one row between (Ok tt) new
       → shown ≡ row
       → ((first : ℕ) (affix : List ℕ) → shown ≡ first ∷ affix → length affix ≡ affix_len (first % 32)
-      → AnswersTitle strict shown result) → AnswersTitle strict row result
-  row_means strict count before one row shown old between new result none first announced few second same says =
+      → AnswersTitle allowed shown result) → AnswersTitle allowed row result
+  row_means allowed count before one row shown old between new result none first announced few second same says =
       let is = first_byte before one old between none first in
       let counted = second.counted in
       let long = ap length is in
-      subst (λ (z : List ℕ). AnswersTitle strict z result) same
+      subst (λ (z : List ℕ). AnswersTitle allowed z result) same
       (says (get_or one 0 0) second.bytes
       (same ∙ (second.behind ∙ ap (λ (z : List ℕ). z ++ second.bytes) is))
       (omega (arith, counted, long, announced, few)))
@@ -131,15 +132,15 @@ module _ {R E : Type 0} (source : Ghosts R E) where
   -- ---- rows of a read that fails
 
   -- After a failed read an empty row is the row of a title.
-  pub row_nothing : (strict : Bool) (count : ℕ) (before after : List ℕ) (error : Error E) (old new : Decoder R)
+  pub row_nothing : (allowed : Spelling) (count : ℕ) (before after : List ℕ) (error : Error E) (old new : Decoder R)
       → ReadsMore source count before after old (Err error) new → (row : List ℕ) → row ≡ []
-      → IsTitleRow strict error row
-  row_nothing strict count before after error old new p row q = grind (arith, nat_tests)
+      → IsTitleRow allowed error row
+  row_nothing allowed count before after error old new p row q = grind (arith, nat_tests)
 
-  pub row_first : (strict : Bool) (count : ℕ) (before after : List ℕ) (error : Error E) (old new : Decoder R)
+  pub row_first : (allowed : Spelling) (count : ℕ) (before after : List ℕ) (error : Error E) (old new : Decoder R)
       → ReadsMore source count before after old (Err error) new → (byte : ℕ) (row : List ℕ) → row ≡ byte ∷ []
-      → 0 < affix_len (byte % 32) → IsTitleRow strict error row
-  row_first strict count before after error old new p byte row q r = grind (arith, nat_tests)
+      → 0 < affix_len (byte % 32) → IsTitleRow allowed error row
+  row_first allowed count before after error old new p byte row q r = grind (arith, nat_tests)
 
   -- After a failed read an empty row is the row of a body's part.
   pub part_nothing : (kind : Kind) (left count : ℕ) (before after : List ℕ) (error : Error E) (old new : Decoder R)
@@ -257,14 +258,14 @@ module _ {R E : Type 0} (source : Ghosts R E) where
 
   -- ---- a title that was read whole
 
-  module _ (strict : Bool) (old new : Decoder R) (row : List ℕ) (alike : IsInMode strict old)
+  module _ (allowed : Spelling) (old new : Decoder R) (row : List ℕ) (alike : IsInMode allowed old)
       (passed : ReadsPast source old row new) where
     behind_row : new.waiting ≡ None
     behind_row = passes_idle old new row passed alike.none_waits
 
-    pub row_pulled : (header : Header) → AnswersTitle strict row (Some header) → PullsRow source old (Ok header) new
+    pub row_pulled : (header : Header) → AnswersTitle allowed row (Some header) → PullsRow source old (Ok header) new
     row_pulled header means = grind (arith, nat_tests, behind_row)
 
-    pub row_refused : (place : ℕ) → place ≡ old.offset → AnswersTitle strict row None
+    pub row_refused : (place : ℕ) → place ≡ old.offset → AnswersTitle allowed row None
         → PullsRow source old (Err (e.Syntax place)) new
     row_refused place p q = grind (arith, nat_tests, nat_tests, behind_row)

@@ -1,15 +1,16 @@
 -- The reads of `check`: items, one after the other, and the bytes that follow them.
 use Rattle.std.proofs.lemmas.Bool.Decides.{nat_tests}
-use Rattle.std.proofs.Common.{◌≡◌, ℕ, suc, ◌+◌, Bool, false, List, [], ◌∷◌, ◌++◌, length, Some, Result, Ok, Err}
+use Rattle.std.proofs.Common.{◌≡◌, ℕ, suc, ◌+◌, false, List, [], ◌∷◌, ◌++◌, length, Some, Result, Ok, Err}
 use Rattle.std.proofs.Common.{IsOk, IfOk, ◌↔◌, refl, sym, ap, subst, ◌∙◌, inl, inr, arith, append-nil}
 use Rattle.std.proofs.Common.{length-append}
 use Rattle.std.proofs.Math.Seq.{drop-nil}
+use Rattle.ciborium_ll_grammar.specs.declared.spelling.Spelling.{Spelling}
 use Rattle.ciborium_ll.specs.Types.Read.{Ghosts}
 use Rattle.ciborium_ll.specs.Types.Decoder.{Decoder}
 use Rattle.ciborium_ll.specs.Types.Error.TheVariants as e
 use Rattle.ciborium_ll.specs.Items.{AreItems, no_items}
 use Rattle.ciborium_ll.specs.Faults.{Answer, Short, Syntax}
-use Rattle.ciborium_ll.specs.Decoding.{failures_of, view, strict_of}
+use Rattle.ciborium_ll.specs.Decoding.{failures_of, view, spelling_of}
 use Rattle.ciborium_ll.proofs.DecodingLaws.{ReadsPast-none, ReadsPast-then}
 use Rattle.ciborium_ll.proofs.CopyingTold.{consumes_told}
 use Rattle.ciborium_ll.proofs.NestLaws.{title_some}
@@ -17,7 +18,7 @@ use Rattle.cbor_skip.specs.declared.SkipError.{SkipError}
 use Rattle.cbor_skip.specs.declared.SkipError.TheVariants as s
 use Rattle.cbor_skip.specs.Failures.{CountsItemFailure}
 use Rattle.cbor_skip.specs.ItemFaults.{BeginsWithItem}
-use Rattle.cbor_skip.specs.Skipping.{ReadsItem, SkipsItem, strictness}
+use Rattle.cbor_skip.specs.Skipping.{ReadsItem, SkipsItem, allowed_by}
 use Rattle.cbor_skip.specs.SkippingTold.{IsReadyToSkip, MeetsItemFault, SkipsTold}
 use Rattle.cbor_skip.proofs.FailureLaws.{stop_fails}
 use Rattle.cbor_skip.proofs.ItemSteps.{items_item}
@@ -40,8 +41,8 @@ module _ {R E : Type 0} (source : Ghosts R E) where
       → ReadsItem source depth now new → ReadsItems source depth (suc count) old new
   one_more depth count old now new so_far item = record {
     bytes = so_far.bytes ++ item.item;
-    are_items = items_item (strictness old) depth count so_far.bytes item.item so_far.are_items
-        (items_looser (strictness old) (strictness now) (passed_keeps source so_far.passed) depth 1 item.item
+    are_items = items_item (allowed_by old) depth count so_far.bytes item.item so_far.are_items
+        (items_looser (allowed_by old) (allowed_by now) (passed_keeps source so_far.passed) depth 1 item.item
         item.is_item);
     passed = ReadsPast-then source old now new so_far.bytes item.item so_far.passed item.passed;
   }
@@ -57,7 +58,7 @@ module _ {R E : Type 0} (source : Ghosts R E) where
     between = between;
     reads = record {
       bytes = reads.bytes;
-      are_items = subst (λ (n : ℕ). AreItems (strictness old) depth n reads.bytes) (sym is.2) reads.are_items;
+      are_items = subst (λ (n : ℕ). AreItems (allowed_by old) depth n reads.bytes) (sym is.2) reads.are_items;
       passed = reads.passed;
     };
     counted = omega (arith, is.3, from, here, reads.passed.offset);
@@ -119,13 +120,13 @@ module _ {R E : Type 0} (source : Ghosts R E) where
 
     -- If a fault consumes nothing, no byte was left.
     pub no_byte : (ahead : List ℕ) (between new : Decoder R)
-        → MeetsItemFault source (strict_of old) depth ahead Short between new
+        → MeetsItemFault source (spelling_of old) depth ahead Short between new
         → new.offset ≡ between.offset → (ahead ≡ []) × (view source new ≡ Some [])
     no_byte ahead between new meets still = grind (arith, nat_tests, nothing, due_first, fault_first, ahead, drop-nil)
 
     -- If no byte is left, the item is short, and nothing is consumed.
     no_bytes : (ahead : List ℕ) (answer : Answer) (between new : Decoder R)
-        → MeetsItemFault source (strict_of old) depth ahead answer between new
+        → MeetsItemFault source (spelling_of old) depth ahead answer between new
         → ahead ≡ [] → (answer ≡ Short) × (new.offset ≡ between.offset)
     no_bytes ahead answer between new meets none =
         let fault = meets.fault in
@@ -133,9 +134,9 @@ module _ {R E : Type 0} (source : Ghosts R E) where
         let both = length-append fault.before fault.ahead in
         let first = nothing fault.before (omega (arith, counted, both)) in
         let last = nothing fault.ahead (omega (arith, counted, both)) in
-        let at = due_first (strict_of old) depth fault.before fault.point fault.reach first in
+        let at = due_first (spelling_of old) depth fault.before fault.point fault.reach first in
         let short =
-        first_fault (strict_of old) fault.before fault.point fault.ahead fault.answer fault.written fault.consumed
+        first_fault (spelling_of old) fault.before fault.point fault.ahead fault.answer fault.written fault.consumed
         fault.fault at last
         in
         let begins = ap length first in
@@ -143,7 +144,7 @@ module _ {R E : Type 0} (source : Ghosts R E) where
 
     -- If no byte is left, the read of an item fails at the end.
     ends_there : (ahead : List ℕ) (between new : Decoder R) (error : SkipError E)
-        → SkipsTold source (strict_of old) depth ahead between (Err error) new
+        → SkipsTold source (spelling_of old) depth ahead between (Err error) new
         → ahead ≡ [] → IsEnd error between.offset new.offset
     ends_there ahead between new (s.Break at) met none =
         let counted = ap length (sym met.fault.is ∙ none) in
@@ -166,16 +167,16 @@ module _ {R E : Type 0} (source : Ghosts R E) where
 
     -- The items that were read are in the spelling of the decoder's mode.
     pub items_ready : (count : ℕ) (between : Decoder R) (reads : ReadsItems source depth count old between)
-        → AreItems (strict_of old) depth count reads.bytes
+        → AreItems (spelling_of old) depth count reads.bytes
     items_ready count between reads = grind (arith, nat_tests, ready_mode)
 
     -- The read of an item after some items meets the bytes that follow them.
     pub met_behind : (count : ℕ) (between : Decoder R) (reads : ReadsItems source depth count old between)
         (result : Result (Unit {0}) (SkipError E)) (new : Decoder R) → SkipsItem source depth room between result new
-        → SkipsTold source (strict_of old) depth (behind count between reads).ahead between result new
+        → SkipsTold source (spelling_of old) depth (behind count between reads).ahead between result new
     met_behind count between reads result new skips =
         let c = behind count between reads in
-        subst (λ (b : Bool). SkipsTold source b depth c.ahead between result new) reads.passed.mode
+        subst (λ (b : Spelling). SkipsTold source b depth c.ahead between result new) reads.passed.mode
         (skip_told source depth room between c.ahead c.still_ready new result skips)
 
     pub check_told : (new : Decoder R) (result : Result (Sequence E) (Stopped E))
@@ -189,7 +190,7 @@ module _ {R E : Type 0} (source : Ghosts R E) where
         let all = c.parts ∙ (ap (λ (z : List ℕ). finds.reads.bytes ++ z) none.0 ∙ append-nil finds.reads.bytes) in
         let counted = ap length all in
         record {
-          are_items = subst (λ (z : List ℕ). AreItems (strict_of old) depth sequence.items z) (sym all)
+          are_items = subst (λ (z : List ℕ). AreItems (spelling_of old) depth sequence.items z) (sym all)
               (items_ready sequence.items finds.between finds.reads);
           counted = finds.counted ∙ sym counted;
           left = none.1;
@@ -206,7 +207,7 @@ module _ {R E : Type 0} (source : Ghosts R E) where
           are_items = items_ready stopped.items finds.between finds.reads;
           is = c.parts;
           place = finds.place ∙ finds.reads.passed.offset;
-          no_item = λ front. (let ok = exactly.1 (subst (λ (b : Bool). BeginsWithItem b depth c.ahead)
+          no_item = λ front. (let ok = exactly.1 (subst (λ (b : Spelling). BeginsWithItem b depth c.ahead)
               (sym finds.reads.passed.mode) front) in absurd cc);
           no_end = λ none. finds.no_end (ends_there c.ahead finds.between new stopped.error met none);
           between = finds.between;
@@ -216,12 +217,12 @@ module _ {R E : Type 0} (source : Ghosts R E) where
 
     exactly_told : (new : Decoder R) (result : Result (Sequence E) (Stopped E))
         → ChecksTold source depth due old result new
-        → IsOk result ↔ IsSequence (strict_of old) depth due
+        → IsOk result ↔ IsSequence (spelling_of old) depth due
     exactly_told new (Ok sequence) told = (λ ok. (sequence.items, told.are_items), λ is. refl)
     exactly_told new (Err stopped) told = (
       λ ok. absurd cc,
       λ is.
-          elim (rows_meet (strict_of old) depth stopped.items told.before told.are_items is.0 due is.1 told.ahead
+          elim (rows_meet (spelling_of old) depth stopped.items told.before told.are_items is.0 due is.1 told.ahead
           told.is) [
             | inl comes ↦ absurd (told.no_item comes)
             | inr ends ↦ absurd (told.no_end ends.1)
@@ -230,26 +231,26 @@ module _ {R E : Type 0} (source : Ghosts R E) where
 
     pub check_exactly : (new : Decoder R) (result : Result (Sequence E) (Stopped E))
         → ChecksItems source depth room old result new
-        → IsOk result ↔ IsSequence (strict_of old) depth due
+        → IsOk result ↔ IsSequence (spelling_of old) depth due
     check_exactly new result checks = exactly_told new result (check_told new result checks)
 
-    number_told : (count : ℕ) → AreItems (strict_of old) depth count due → (new : Decoder R)
+    number_told : (count : ℕ) → AreItems (spelling_of old) depth count due → (new : Decoder R)
         (result : Result (Sequence E) (Stopped E))
         → ChecksTold source depth due old result new
         → IfOk result (λ sequence. sequence.items ≡ count)
     number_told count items new (Ok sequence) told =
-        elim (rows_meet (strict_of old) depth sequence.items due told.are_items count due items []
+        elim (rows_meet (spelling_of old) depth sequence.items due told.are_items count due items []
         (sym (append-nil due))) [
           | inl comes ↦ (
               let counted = ap length comes.is in
-              let some = items_counted (strict_of old) depth 1 comes.item comes.is_item in
+              let some = items_counted (spelling_of old) depth 1 comes.item comes.is_item in
               absurd (omega (arith, counted, some, length-append comes.item comes.rest))
               )
           | inr ends ↦ sym ends.0
         ]
     number_told count items new (Err stopped) told = tt
 
-    pub check_number : (count : ℕ) → AreItems (strict_of old) depth count due → (new : Decoder R)
+    pub check_number : (count : ℕ) → AreItems (spelling_of old) depth count due → (new : Decoder R)
         (result : Result (Sequence E) (Stopped E))
         → ChecksItems source depth room old result new
         → IfOk result (λ sequence. sequence.items ≡ count)

@@ -1,19 +1,20 @@
 -- The reads of `check_one`: an item, and the bytes that follow it.
 use Rattle.std.proofs.lemmas.Bool.Decides.{nat_tests}
-use Rattle.std.proofs.Common.{◌≡◌, ℕ, ◌+◌, Bool, false, List, [], ◌++◌, length, Some, Result, Ok, Err}
+use Rattle.std.proofs.Common.{◌≡◌, ℕ, ◌+◌, false, List, [], ◌++◌, length, Some, Result, Ok, Err}
 use Rattle.std.proofs.Common.{IsOk, ◌↔◌, refl, sym, ap, subst, ◌∙◌, arith, append-nil, length-append}
 use Rattle.std.proofs.lemmas.List.{length-take}
+use Rattle.ciborium_ll_grammar.specs.declared.spelling.Spelling.{Spelling}
 use Rattle.ciborium_ll.specs.Types.Read.{Ghosts}
 use Rattle.ciborium_ll.specs.Types.Header.{Header}
 use Rattle.ciborium_ll.specs.Types.Decoder.{Decoder}
 use Rattle.ciborium_ll.specs.Types.Error.{Error}
 use Rattle.ciborium_ll.specs.Types.Error.TheVariants as e
 use Rattle.ciborium_ll.specs.Items.{AreItems, IsItem}
-use Rattle.ciborium_ll.specs.Decoding.{failures_of, view, DecoderPullAnswer, strict_of}
+use Rattle.ciborium_ll.specs.Decoding.{failures_of, view, DecoderPullAnswer, spelling_of}
 use Rattle.ciborium_ll.proofs.CopyingTold.{consumes_told, next_read_small}
 use Rattle.ciborium_ll.proofs.ItemLaws.{one_item}
 use Rattle.ciborium_ll.proofs.NestLaws.{title_some}
-use Rattle.cbor_skip.specs.Skipping.{ReadsItem, strictness}
+use Rattle.cbor_skip.specs.Skipping.{ReadsItem, allowed_by}
 use Rattle.cbor_skip.specs.SkippingTold.{IsReadyToSkip}
 use Rattle.cbor_skip.proofs.FailureLaws.{pull_fails, stop_fails}
 use Rattle.cbor_skip.proofs.SkippingToldLaws.{ready_mode, skip_told, skip_exactly}
@@ -67,15 +68,16 @@ module _ {R E : Type 0} (source : Ghosts R E) where
   module _ (depth room : ℕ) (old : Decoder R) (due : List ℕ) (ready : IsReadyToSkip source room old due) where
     -- If no byte is left, the pull finds the end.
     end_found : (between new : Decoder R) (pulled : Result Header (Error E)) → DecoderPullAnswer source between pulled new
-        → view source between ≡ Some [] → strict_of between ≡ strict_of old → between.offset ≡ old.offset + length due
+        → view source between ≡ Some [] → spelling_of between ≡ spelling_of old
+        → between.offset ≡ old.offset + length due
         → (fault : E) × (pulled ≡ Err (e.Io fault)) × (new.offset ≡ between.offset)
     end_found between new pulled p q r s =
         grind (arith, nat_tests, consumes_told, title_some, length-append, next_read_small)
 
     -- The item that was read is in the spelling of the decoder's mode.
-    item_ready : (item : List ℕ) → IsItem (strictness old) depth item → IsItem (strict_of old) depth item
+    item_ready : (item : List ℕ) → IsItem (allowed_by old) depth item → IsItem (spelling_of old) depth item
     item_ready item i =
-        subst (λ (b : Bool). IsItem b depth item) (ready_mode source depth room old due ready) i
+        subst (λ (b : Spelling). IsItem b depth item) (ready_mode source depth room old due ready) i
 
     pub one_told : (new : Decoder R) (result : Result (Sequence E) (NotOne E)) → ChecksOne source depth room old result
         new
@@ -96,8 +98,8 @@ module _ {R E : Type 0} (source : Ghosts R E) where
         gone.2 ∙ (ap (λ (z : List ℕ). finds.reads.item ++ z) rest ∙ append-nil finds.reads.item) in (
           finds.one,
           record {
-            are_items = subst (λ (n : ℕ). AreItems (strict_of old) depth n due) (sym finds.one)
-                (subst (λ (z : List ℕ). IsItem (strict_of old) depth z) (sym all)
+            are_items = subst (λ (n : ℕ). AreItems (spelling_of old) depth n due) (sym finds.one)
+                (subst (λ (z : List ℕ). IsItem (spelling_of old) depth z) (sym all)
                 (item_ready finds.reads.item finds.reads.is_item));
             counted = finds.counted ∙ sym (ap length all);
             left = left.1 ∙ ap Some last;
@@ -122,9 +124,9 @@ module _ {R E : Type 0} (source : Ghosts R E) where
 
     one_exactly_told : (new : Decoder R) (result : Result (Sequence E) (NotOne E))
         → ChecksOne source depth room old result new
-        → ChecksOneTold source depth due old result new → IsOk result ↔ IsItem (strict_of old) depth due
+        → ChecksOneTold source depth due old result new → IsOk result ↔ IsItem (spelling_of old) depth due
     one_exactly_told new (Ok sequence) checks told =
-        (λ ok. subst (λ (n : ℕ). AreItems (strict_of old) depth n due) told.0 told.1.are_items, λ item. refl)
+        (λ ok. subst (λ (n : ℕ). AreItems (spelling_of old) depth n due) told.0 told.1.are_items, λ item. refl)
     one_exactly_told new (Err (n.Item error)) checks told = (
       λ ok. absurd cc,
       λ item. (let ok = (skip_exactly source depth room old due ready new (Err error) checks).1
@@ -134,11 +136,12 @@ module _ {R E : Type 0} (source : Ghosts R E) where
     one_exactly_told new (Err (n.More at next)) checks told = (
       λ ok. absurd cc,
       λ item. (let front = told.front in
-          let o = one_item (strict_of old) (strict_of old) depth depth due front.item [] front.rest item front.is_item
+          let o =
+          one_item (spelling_of old) (spelling_of old) depth depth due front.item [] front.rest item front.is_item
           (append-nil due ∙ front.is) in
           absurd (told.some (sym o.1))),
     )
 
     pub one_exactly : (new : Decoder R) (result : Result (Sequence E) (NotOne E))
-        → ChecksOne source depth room old result new → IsOk result ↔ IsItem (strict_of old) depth due
+        → ChecksOne source depth room old result new → IsOk result ↔ IsItem (spelling_of old) depth due
     one_exactly new result checks = one_exactly_told new result checks (one_told new result checks)

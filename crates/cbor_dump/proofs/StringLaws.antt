@@ -2,7 +2,9 @@
 use Rattle.std.proofs.lemmas.Bool.Decides.{nat_tests}
 use Rattle.std.proofs.Common.{◌≡◌, ℕ, zero, suc, ◌+◌, ◌-◌, ◌<◌, ◌≤◌, List, [], ◌∷◌, ◌++◌, length, Option, Some, None}
 use Rattle.std.proofs.Common.{Result, Err, inr, refl, sym, ap, subst, ◌∙◌, arith, append-nil, append_assoc}
-use Rattle.std.proofs.Common.{length-append, Bool, IfSome, false, OnOk}
+use Rattle.std.proofs.Common.{length-append, IfSome, OnOk}
+use Rattle.ciborium_ll_grammar.specs.declared.spelling.Spelling.{Spelling}
+use Rattle.ciborium_ll_grammar.specs.declared.spelling.Spelling.TheVariants.{Any}
 use Rattle.ciborium_ll.specs.Types.Read.{Ghosts}
 use Rattle.ciborium_ll.specs.Types.Decoder.{Decoder}
 use Rattle.ciborium_ll.specs.Title.{IsTitle, IsStrictTitle}
@@ -133,7 +135,8 @@ module _ {R E : Type 0} (source : Ghosts R E) where
       grind (arith, nat_tests, shows, length-append)
 
   -- A row at fault shows the bytes that were read of a body, after the front that was shown.
-  pub part_fails : (strict : Bool) (error : Error E) (depth start opens : ℕ) (nests : List Nest) (outer title : List ℕ)
+  pub part_fails : (allowed : Spelling) (error : Error E) (depth start opens : ℕ) (nests : List Nest)
+      (outer title : List ℕ)
       (kind : Kind) (len left level offset : ℕ) (drawn middle then_drawn : Option (List Line)) (bytes : List ℕ)
       (old between new : Decoder R) → AtBody depth opens nests outer title kind len level
       → old.offset ≡ start + length (outer ++ title)
@@ -142,23 +145,23 @@ module _ {R E : Type 0} (source : Ghosts R E) where
       → Draws middle then_drawn (fault_lines level offset bytes) → IsPartRow kind left error bytes
       → length bytes ≤ most_bytes → 0 < left
       → (IsSteadyNoneWaiting source between → IfSome (view source new) (LeavesBehind error bytes))
-      → Shows source depth start drawn then_drawn (outer ++ title) (so_far.front ++ bytes) (ending_of strict error) old
+      → Shows source depth start drawn then_drawn (outer ++ title) (so_far.front ++ bytes) (ending_of allowed error) old
       new
   unfolding body_here
-  part_fails strict error depth start opens nests outer title kind len left level offset drawn middle then_drawn bytes
+  part_fails allowed error depth start opens nests outer title kind len left level offset drawn middle then_drawn bytes
       old between new at begun so_far takes few here drawn_fault row fit some left_behind =
       let counted = so_far.counted in
       let rest : left ≡ len - length so_far.front = omega (arith, counted) in
       shows_then source depth start drawn middle then_drawn (outer ++ title) so_far.front bytes old between new
-      so_far.shows (shows_fault source strict error depth start middle then_drawn ((outer ++ title) ++ so_far.front)
+      so_far.shows (shows_fault source allowed error depth start middle then_drawn ((outer ++ title) ++ so_far.front)
       level offset bytes between new takes drawn_fault
       (here ∙ next_offset depth start drawn middle (outer ++ title) so_far.front old between so_far.shows begun)
-      (λ any. let fault = part_row strict kind left error bytes row any in
-      inr (no_text (ending_of strict error) kind depth _ _ fault.0
+      (λ any. let fault = part_row allowed kind left error bytes row any in
+      inr (no_text (ending_of allowed error) kind depth _ _ fault.0
       (body_here depth opens nests outer title kind len level at so_far.front bytes (omega (arith, counted, few))
       (subst (λ (k : Kind). IsFullPart k (len - length so_far.front) bytes) (sym fault.0)
       (subst (λ (n : ℕ). IsFullPart Text n bytes) rest fault.2)) offset m.Fault)
-      (subst (λ (n : ℕ). IsTextFault (ending_of strict error) n bytes) rest fault.1))) fit
+      (subst (λ (n : ℕ). IsTextFault (ending_of allowed error) n bytes) rest fault.1))) fit
       (part_fault kind left error bytes some row) left_behind)
 
   pub part_shown : (depth start opens : ℕ) (nests : List Nest) (outer title : List ℕ) (kind : CodeKind)
@@ -230,19 +233,19 @@ flat_then kind strings title body bodies (more_flat {title = t} {body = b} {rest
     subst (λ (y : List ℕ). AreFlat kind y (b ∷ (c ++ (body ∷ [])))) (sym (append_assoc (t ++ b) z (title ++ body)))
     (more_flat q f (flat_then kind z title body c flat p g))
 
-pub taken_then : (strict : Bool) (kind : Kind) (strings title body : List ℕ) (bodies : List (List ℕ))
-    → AreTakenStrings strict kind strings bodies → IsTitle title (kind_header kind (Some (length body)))
-    → IsTakenTitle strict title (kind_header kind (Some (length body)))
-    → AreTakenStrings strict kind (strings ++ (title ++ body)) (bodies ++ (body ∷ []))
-taken_then strict kind strings title body bodies p q r = grind (arith, nat_tests, flat_then)
+pub taken_then : (allowed : Spelling) (kind : Kind) (strings title body : List ℕ) (bodies : List (List ℕ))
+    → AreTakenStrings allowed kind strings bodies → IsTitle title (kind_header kind (Some (length body)))
+    → IsTakenTitle allowed title (kind_header kind (Some (length body)))
+    → AreTakenStrings allowed kind (strings ++ (title ++ body)) (bodies ++ (body ∷ []))
+taken_then allowed kind strings title body bodies p q r = grind (arith, nat_tests, flat_then)
 
 -- If any spelling is taken, all strings are taken.
-pub taken_any : (strict : Bool) (kind : Kind) (strings : List ℕ) (bodies : List (List ℕ)) → strict ≡ false
-    → AreTakenStrings strict kind strings bodies
-taken_any strict kind strings bodies p = grind (arith, nat_tests)
+pub taken_any : (allowed : Spelling) (kind : Kind) (strings : List ℕ) (bodies : List (List ℕ)) → allowed ≡ Any
+    → AreTakenStrings allowed kind strings bodies
+taken_any allowed kind strings bodies p = grind (arith, nat_tests)
 
-pub taken_none : (strict : Bool) (kind : Kind) → AreTakenStrings strict kind [] []
-taken_none strict kind = grind (arith, nat_tests, no_flat)
+pub taken_none : (allowed : Spelling) (kind : Kind) → AreTakenStrings allowed kind [] []
+taken_none allowed kind = grind (arith, nat_tests, no_flat)
 
 -- A further open after others leaves one more open.
 pub add_open : (kind : Kind) (opens : ℕ) (parts title : List ℕ) (bodies : List (List ℕ))
@@ -264,11 +267,11 @@ pub not_open : (kind : Kind) (opens : ℕ) (parts : List ℕ) (bodies : List (Li
     → opens ≡ 0 → (parts ≡ []) × (bodies ≡ [])
 not_open kind opens parts bodies p q = grind (arith, nat_tests)
 
-pub close_last : (strict : Bool) (kind : Kind) (title bytes parts : List ℕ) (bodies : List (List ℕ))
+pub close_last : (allowed : Spelling) (kind : Kind) (title bytes parts : List ℕ) (bodies : List (List ℕ))
     → AreOpen kind (suc zero) parts bodies → IsTitle title (kind_header kind None) → title ++ bytes ≡ parts
-    → AreWritable kind bodies → AreTakenStrings strict kind bytes bodies
-    → EndsString strict kind (bytes ++ 0xff ∷ [])
-close_last strict kind title bytes parts bodies
+    → AreWritable kind bodies → AreTakenStrings allowed kind bytes bodies
+    → EndsString allowed kind (bytes ++ 0xff ∷ [])
+close_last allowed kind title bytes parts bodies
     (more {outer = x} {title = t} {strings = s} {bodies = b} {others = c} o p are) q e sound taken =
     let empty = not_open kind zero x b o refl in
     let same : title ++ bytes ≡ t ++ s = e ∙ ap (λ (z : List ℕ). z ++ (t ++ s)) empty.0 in
@@ -278,8 +281,8 @@ close_last strict kind title bytes parts bodies
       strings = s;
       bodies = c;
       are_strings = are;
-      taken = subst (λ (z : List ℕ). AreTakenStrings strict kind z c) both.2
-          (subst (λ (z : List (List ℕ)). AreTakenStrings strict kind bytes z) all taken);
+      taken = subst (λ (z : List ℕ). AreTakenStrings allowed kind z c) both.2
+          (subst (λ (z : List (List ℕ)). AreTakenStrings allowed kind bytes z) all taken);
       sound = subst (λ (z : List (List ℕ)). AreWritable kind z) all sound;
       is = ap (λ (z : List ℕ). z ++ 0xff ∷ []) both.2;
     }

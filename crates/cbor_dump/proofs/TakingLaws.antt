@@ -16,7 +16,7 @@ use Rattle.ciborium_ll.specs.Types.Error.{Error}
 use Rattle.ciborium_ll.specs.Types.Error.TheVariants as e
 use Rattle.ciborium_ll.specs.Title.{IsTitle, IsStrictTitle, IsCutTitle, affix_len}
 use Rattle.ciborium_ll.specs.Decoding.{view, next_read, IsSteady, ReadsAll, ReadsBytes, ReadFails, IsUntouched}
-use Rattle.ciborium_ll.specs.Decoding.{DecoderPullAnswer, PullsTitle, strict_of}
+use Rattle.ciborium_ll.specs.Decoding.{DecoderPullAnswer, PullsTitle, spelling_of}
 use Rattle.ciborium_ll.proofs.AffixLaws.{announced, refused_affix}
 use Rattle.ciborium_ll.proofs.CopyingTold.{consumes_told, next_read_small}
 use Rattle.cbor_dump.proofs.ItemRows.{nothing}
@@ -144,7 +144,7 @@ module _ {R E : Type 0} (source : Ghosts R E) (old : Decoder R) (first : ℕ) (a
       whole_front header first affix title gone.0 is_title (sym parts ∙ gone.2) long ∙ sym parts
 
   pub pull_means : old.waiting ≡ None → (header : Header) (new : Decoder R) → PullsTitle source old header new
-      → AnswersTitle (strict_of old) bytes (Some header)
+      → AnswersTitle (spelling_of old) bytes (Some header)
   pull_means none header new pulled =
       let same = pulled_all header pulled.title pulled.is_title new pulled.bytes in (
         subst (λ (z : List ℕ). IsTitle z header) same pulled.is_title,
@@ -152,7 +152,7 @@ module _ {R E : Type 0} (source : Ghosts R E) (old : Decoder R) (first : ℕ) (a
       )
 
   pub fault_means : IsSteady source old → old.offset ≡ 0 → (error : Error E) (new : Decoder R)
-      → DecoderPullAnswer source old (Err error) new → AnswersTitle (strict_of old) bytes None
+      → DecoderPullAnswer source old (Err error) new → AnswersTitle (spelling_of old) bytes None
   fault_means steady start (e.Io fault) new fails =
       let cut = (rw told at (fails.steady steady).1).0 in
       let less : IsCutTitle (first ∷ affix) = subst IsCutTitle parts cut in
@@ -196,5 +196,5 @@ module _ {R E : Type 0} (source : Ghosts R E) (old : Decoder R) (first : ℕ) (a
   -- The pull of all bytes says whether they are a title.
   pub whole_means : IsSteady source old → old.offset ≡ 0 → old.waiting ≡ None → (result : Result Header (Error E))
       → (new : Decoder R) → DecoderPullAnswer source old result new
-      → AnswersTitle (strict_of old) bytes (result_ok result)
+      → AnswersTitle (spelling_of old) bytes (result_ok result)
   whole_means p q r result new s = grind (arith, nat_tests, pull_means, fault_means)

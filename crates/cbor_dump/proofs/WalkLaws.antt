@@ -1,9 +1,11 @@
 -- The steps of a walk: what it keeps of the nests within which an item is due.
 use Rattle.std.proofs.lemmas.Bool.Decides.{nat_tests}
-use Rattle.std.proofs.Common.{◌≡◌, ℕ, zero, suc, ◌+◌, ◌-◌, ◌*◌, ◌<◌, ◌≤◌, Bool, true, false, List, [], ◌∷◌, ◌++◌}
+use Rattle.std.proofs.Common.{◌≡◌, ℕ, zero, suc, ◌+◌, ◌-◌, ◌*◌, ◌<◌, ◌≤◌, true, false, List, [], ◌∷◌, ◌++◌}
 use Rattle.std.proofs.Common.{length, set, refl, sym, ap, subst, ◌∙◌, arith, append_assoc}
 use Rattle.std.proofs.Common.{append-nil, Option, Some, None}
 use Rattle.std.proofs.lemmas.List.{get_or-set_same, get_or-set_other, length-set}
+use Rattle.ciborium_ll_grammar.specs.declared.spelling.Spelling.{Spelling}
+use Rattle.ciborium_ll_grammar.specs.declared.spelling.Spelling.TheVariants.{Any}
 use Rattle.ciborium_ll.specs.Types.Header.{Header}
 use Rattle.ciborium_ll.specs.Types.Header.TheVariants as h
 use Rattle.ciborium_ll.specs.Title.{IsTitle}
@@ -30,16 +32,16 @@ use Rattle.cbor_dump.specs.declared.rows.Within.TheVariants as w
 -- ---- all items of a nest
 
 -- If no more items remain, the items complete the nest.
-all_read : (strict : Bool) (x : Header) (d count : ℕ) (items : List ℕ) (remaining : Remaining)
+all_read : (allowed : Spelling) (x : Header) (d count : ℕ) (items : List ℕ) (remaining : Remaining)
     → IsRemaining x count remaining
-    → is_done remaining ≡ true → AreItems strict d count items → Completes strict (suc d) x items
-all_read strict x d count items remaining is done i = grind (arith, tag, array, pairs)
+    → is_done remaining ≡ true → AreItems allowed d count items → Completes allowed (suc d) x items
+all_read allowed x d count items remaining is done i = grind (arith, tag, array, pairs)
 
 -- If a break may close the nest, the items and a break complete it.
-all_closed : (strict : Bool) (x : Header) (d count : ℕ) (items : List ℕ) (remaining : Remaining)
+all_closed : (allowed : Spelling) (x : Header) (d count : ℕ) (items : List ℕ) (remaining : Remaining)
     → IsRemaining x count remaining
-    → closes remaining ≡ true → AreItems strict d count items → Completes strict (suc d) x (items ++ 0xff ∷ [])
-all_closed strict x d count items remaining is may i = grind (arith, open_array, open_pairs)
+    → closes remaining ≡ true → AreItems allowed d count items → Completes allowed (suc d) x (items ++ 0xff ∷ [])
+all_closed allowed x d count items remaining is may i = grind (arith, open_array, open_pairs)
 
 -- ---- what is kept
 
@@ -76,23 +78,23 @@ at_more indexes nests nest at x end room is kept =
 -- ---- the innermost nest
 
 -- A nest has its title and its items, after the bytes before it.
-record Inner (strict : Bool) (depth whole : ℕ) (nest : Nest) (outer : List Nest) (bytes : List ℕ) : Type 0 where
+record Inner (allowed : Spelling) (depth whole : ℕ) (nest : Nest) (outer : List Nest) (bytes : List ℕ) : Type 0 where
   before : List ℕ
   title : List ℕ
   items : List ℕ
   levels : ℕ
-  within : StandsBehind strict depth whole outer before
+  within : StandsBehind allowed depth whole outer before
   level : length outer + suc levels ≡ depth
   is_title : IsTitle title nest.header
-  taken : IsTakenTitle strict title nest.header
+  taken : IsTakenTitle allowed title nest.header
   takes_more : TakesMore nest.header nest.count
-  are_items : AreItems strict levels nest.count items
+  are_items : AreItems allowed levels nest.count items
   is : bytes ≡ before ++ (title ++ items)
 
-inner_of : (strict : Bool) (depth whole : ℕ) (nest : Nest) (outer : List Nest) (bytes : List ℕ)
-    → StandsBehind strict depth whole (nest ∷ outer) bytes
-    → Inner strict depth whole nest outer bytes
-inner_of strict depth whole nest outer bytes
+inner_of : (allowed : Spelling) (depth whole : ℕ) (nest : Nest) (outer : List Nest) (bytes : List ℕ)
+    → StandsBehind allowed depth whole (nest ∷ outer) bytes
+    → Inner allowed depth whole nest outer bytes
+inner_of allowed depth whole nest outer bytes
     (inside {levels = l} {before = b} {title = t} {items = i} w e p g more are) = record {
       before = b;
       title = t;
@@ -108,21 +110,21 @@ inner_of strict depth whole nest outer bytes
     }
 
 -- If a nest is due more items, an item in it leaves it open with one item more.
-goes_on : (strict : Bool) (depth whole levels : ℕ) (nest : Nest) (outer : List Nest) (bytes item : List ℕ)
-    → Inner strict depth whole nest outer bytes → suc (length outer) + levels ≡ depth → IsItem strict levels item
+goes_on : (allowed : Spelling) (depth whole levels : ℕ) (nest : Nest) (outer : List Nest) (bytes item : List ℕ)
+    → Inner allowed depth whole nest outer bytes → suc (length outer) + levels ≡ depth → IsItem allowed levels item
     → TakesMore nest.header (suc nest.count)
-    → StandsBehind strict depth whole (record { header = nest.header; count = suc nest.count } ∷ outer) (bytes ++ item)
-goes_on strict depth whole levels nest outer bytes item inner level is_item more =
+    → StandsBehind allowed depth whole (record { header = nest.header; count = suc nest.count } ∷ outer) (bytes ++ item)
+goes_on allowed depth whole levels nest outer bytes item inner level is_item more =
     let same : levels ≡ inner.levels = let e = inner.level in omega (arith, e, level) in
     let all : inner.before ++ (inner.title ++ (inner.items ++ item)) ≡ bytes ++ item =
     sym (ap (λ (z : List ℕ). z ++ item) inner.is ∙ (append_assoc inner.before (inner.title ++ inner.items) item
     ∙ ap (λ (z : List ℕ). inner.before ++ z) (append_assoc inner.title inner.items item))) in
-    let item' = subst (λ (n : ℕ). IsItem strict n item) same is_item in
-    subst (λ (z : List ℕ). StandsBehind strict depth whole (record { header = nest.header; count = suc nest.count }
+    let item' = subst (λ (n : ℕ). IsItem allowed n item) same is_item in
+    subst (λ (z : List ℕ). StandsBehind allowed depth whole (record { header = nest.header; count = suc nest.count }
     ∷ outer) z)
     all
     (inside inner.within inner.level inner.is_title inner.taken more
-    (items_item strict inner.levels nest.count inner.items item inner.are_items item'))
+    (items_item allowed inner.levels nest.count inner.items item inner.are_items item'))
 
 -- A nest is a key that a dump does not name.
 nest_key : (x : Header) (count : ℕ) (rest : List ℕ) → TakesMore x count → IsKeyOf x rest keys.Other
@@ -133,11 +135,12 @@ empty_key : (x : Header) (count : ℕ) (rest : List ℕ) (remaining : Remaining)
 empty_key x count rest remaining is = grind arith
 
 -- If its items complete a nest, an item ends one level further out.
-ends_nest : (strict : Bool) (depth whole : ℕ) (nest : Nest) (outer : List Nest) (bytes more rest : List ℕ) (walk : Walk)
-    (inner : Inner strict depth whole nest outer bytes) → rest ≡ inner.items ++ more
-    → Completes strict (suc inner.levels) nest.header rest → KeepsNests depth walk outer
-    → IsBehindItem strict depth whole walk keys.Other (bytes ++ more)
-ends_nest strict depth whole nest outer bytes more rest walk inner e completes keeps = record {
+ends_nest : (allowed : Spelling) (depth whole : ℕ) (nest : Nest) (outer : List Nest) (bytes more rest : List ℕ)
+    (walk : Walk)
+    (inner : Inner allowed depth whole nest outer bytes) → rest ≡ inner.items ++ more
+    → Completes allowed (suc inner.levels) nest.header rest → KeepsNests depth walk outer
+    → IsBehindItem allowed depth whole walk keys.Other (bytes ++ more)
+ends_nest allowed depth whole nest outer bytes more rest walk inner e completes keeps = record {
   before = inner.before;
   item = inner.title ++ rest;
   levels = suc inner.levels;
@@ -145,7 +148,7 @@ ends_nest strict depth whole nest outer bytes more rest walk inner e completes k
   within = inner.within;
   keeps = keeps;
   left = inner.level;
-  is_item = item_of strict (suc inner.levels) inner.title rest nest.header inner.is_title inner.taken completes;
+  is_item = item_of allowed (suc inner.levels) inner.title rest nest.header inner.is_title inner.taken completes;
   is =
       ap (λ (z : List ℕ). z ++ more) inner.is ∙ (append_assoc inner.before (inner.title ++ inner.items) more
       ∙ (ap (λ (z : List ℕ). inner.before ++ z) (append_assoc inner.title inner.items more)
@@ -163,43 +166,44 @@ ends_nest strict depth whole nest outer bytes more rest walk inner e completes k
 -- ---- the walk
 
 -- Bytes in the shortest spelling are bytes in any spelling.
-pub stands_any : (strict : Bool) (depth whole : ℕ) (nests : List Nest) (bytes : List ℕ)
-    → StandsBehind strict depth whole nests bytes → StandsBehind false depth whole nests bytes
-stands_any strict depth whole nests bytes (outside are) =
-    outside (items_looser false strict (λ no. absurd cc) depth whole bytes are)
-stands_any strict depth whole nests bytes
+pub stands_any : (allowed : Spelling) (depth whole : ℕ) (nests : List Nest) (bytes : List ℕ)
+    → StandsBehind allowed depth whole nests bytes → StandsBehind Any depth whole nests bytes
+stands_any allowed depth whole nests bytes (outside are) =
+    outside (items_looser Any allowed (λ no. absurd cc) depth whole bytes are)
+stands_any allowed depth whole nests bytes
     (inside {levels = l} {count = n} {nests = outer} {before = b} {items = i} w e p g more are) =
-    inside (stands_any strict depth whole outer b w) e p tt more
-    (items_looser false strict (λ no. absurd cc) l n i are)
+    inside (stands_any allowed depth whole outer b w) e p tt more
+    (items_looser Any allowed (λ no. absurd cc) l n i are)
 
 -- Within a nest no further item is whole.
-within_nest : (strict : Bool) (depth whole used : ℕ) (walk : Walk) (bytes : List ℕ) → walk.used ≡ used → 0 < used
-    → IsDue strict depth whole walk bytes → IsDueBehind strict depth whole walk bytes
-within_nest strict depth whole zero walk bytes same some due = absurd (omega (arith, some))
-within_nest strict depth whole (suc used) walk bytes same some due = grind (arith, nat_tests)
+within_nest : (allowed : Spelling) (depth whole used : ℕ) (walk : Walk) (bytes : List ℕ) → walk.used ≡ used → 0 < used
+    → IsDue allowed depth whole walk bytes → IsDueBehind allowed depth whole walk bytes
+within_nest allowed depth whole zero walk bytes same some due = absurd (omega (arith, some))
+within_nest allowed depth whole (suc used) walk bytes same some due = grind (arith, nat_tests)
 
 -- Outside of all nests one more item is whole.
-due_outside : (strict : Bool) (depth whole : ℕ) (walk : Walk) (bytes : List ℕ) → walk.used ≡ 0
-    → IsDue strict depth (suc whole) walk bytes → IsDueBehind strict depth whole walk bytes
-due_outside strict depth whole walk bytes none due = grind (arith, nat_tests)
+due_outside : (allowed : Spelling) (depth whole : ℕ) (walk : Walk) (bytes : List ℕ) → walk.used ≡ 0
+    → IsDue allowed depth (suc whole) walk bytes → IsDueBehind allowed depth whole walk bytes
+due_outside allowed depth whole walk bytes none due = grind (arith, nat_tests)
 
-pub due_first : (strict : Bool) (depth : ℕ) (walk : Walk) → walk.used ≡ 0 → walk.depth ≡ depth
+pub due_first : (allowed : Spelling) (depth : ℕ) (walk : Walk) → walk.used ≡ 0 → walk.depth ≡ depth
     → length walk.levels ≡ 256 → length walk.indexes ≡ 256
-    → IsDue strict depth 0 walk []
-due_first strict depth walk used same room wide = grind (arith, outside, no_items)
+    → IsDue allowed depth 0 walk []
+due_first allowed depth walk used same room wide = grind (arith, outside, no_items)
 
 -- If all levels are used, an item is due at the deepest level.
-pub deepest : (strict : Bool) (depth whole : ℕ) (walk : Walk) (before : List ℕ) → IsDue strict depth whole walk before
-    → walk.used ≡ walk.depth → IsDeepest strict depth whole before
-deepest strict depth whole walk before due full = grind arith
+pub deepest : (allowed : Spelling) (depth whole : ℕ) (walk : Walk) (before : List ℕ)
+    → IsDue allowed depth whole walk before
+    → walk.used ≡ walk.depth → IsDeepest allowed depth whole before
+deepest allowed depth whole walk before due full = grind arith
 
 -- The title of an empty nest is an item.
-pub enters_empty : (strict : Bool) (depth whole : ℕ) (walk : Walk) (before title : List ℕ) (header : Header)
+pub enters_empty : (allowed : Spelling) (depth whole : ℕ) (walk : Walk) (before title : List ℕ) (header : Header)
     (x : Remaining)
-    → IsDue strict depth whole walk before → IsTitle title header → IsTakenTitle strict title header
+    → IsDue allowed depth whole walk before → IsTitle title header → IsTakenTitle allowed title header
     → walk.used ≤ walk.depth → (walk.used ≡ walk.depth → ⊥)
-    → IsRemaining header 0 x → is_done x ≡ true → IsBehindItem strict depth whole walk keys.Other (before ++ title)
-enters_empty strict depth whole walk before title header x due p g within room is done =
+    → IsRemaining header 0 x → is_done x ≡ true → IsBehindItem allowed depth whole walk keys.Other (before ++ title)
+enters_empty allowed depth whole walk before title header x due p g within room is done =
     let levels = depth - suc (length due.nests) in
     let used = due.keeps.used in
     let same = due.keeps.same_depth in
@@ -211,8 +215,8 @@ enters_empty strict depth whole walk before title header x due p g within room i
       within = due.within;
       keeps = due.keeps;
       left = omega (arith, used, same, within, room);
-      is_item = subst (λ (z : List ℕ). IsItem strict (suc levels) z) (append-nil title)
-          (item_of strict (suc levels) title [] header p g (all_read strict header levels 0 [] x is done no_items));
+      is_item = subst (λ (z : List ℕ). IsItem allowed (suc levels) z) (append-nil title)
+          (item_of allowed (suc levels) title [] header p g (all_read allowed header levels 0 [] x is done no_items));
       is = refl;
       names = record {
         header = header;
@@ -225,15 +229,15 @@ enters_empty strict depth whole walk before title header x due p g within room i
     }
 
 -- The title of a nest with items due opens one more level.
-pub enters_within : (strict : Bool) (depth whole : ℕ) (walk new : Walk) (before title : List ℕ) (header : Header)
+pub enters_within : (allowed : Spelling) (depth whole : ℕ) (walk new : Walk) (before title : List ℕ) (header : Header)
     (x : Remaining) (y : Option ℕ)
-    → IsDue strict depth whole walk before → IsTitle title header → IsTakenTitle strict title header
+    → IsDue allowed depth whole walk before → IsTitle title header → IsTakenTitle allowed title header
     → walk.used ≤ walk.depth → walk.depth ≤ 256
     → (walk.used ≡ walk.depth → ⊥) → IsRemaining header 0 x → is_done x ≡ false → y ≡ index_in header 0
     → new.levels ≡ set walk.levels walk.used x → new.indexes ≡ set walk.indexes walk.used y
     → new.used ≡ walk.used + 1 → new.depth ≡ walk.depth
-    → IsDueBehind strict depth whole new (before ++ title)
-enters_within strict depth whole walk new before title header x y due p g within shallow room is some first written
+    → IsDueBehind allowed depth whole new (before ++ title)
+enters_within allowed depth whole walk new before title header x y due p g within shallow room is some first written
     placed one deep =
     let levels = depth - suc (length due.nests) in
     let used = due.keeps.used in
@@ -245,9 +249,9 @@ enters_within strict depth whole walk new before title header x y due p g within
     let more = takes_more header 0 x is some in
     let level : length due.nests + suc levels ≡ depth = omega (arith, used, same, within, room) in
     let fits : walk.used < length walk.levels = omega (arith, used, same, within, room, shallow, long) in
-    within_nest strict depth whole new.used new (before ++ title) refl (omega (arith, one)) (record {
+    within_nest allowed depth whole new.used new (before ++ title) refl (omega (arith, one)) (record {
       nests = nest ∷ due.nests;
-      within = subst (λ (z : List ℕ). StandsBehind strict depth whole (nest ∷ due.nests) z) all
+      within = subst (λ (z : List ℕ). StandsBehind allowed depth whole (nest ∷ due.nests) z) all
           (inside due.within level p g more.0 no_items);
       keeps = record {
         kept = subst (λ (z : List Remaining). AreKept z (nest ∷ due.nests)) (sym written)
@@ -271,10 +275,10 @@ level_open nests e = grind (arith, nat_tests)
 level_closed : (nests : List Nest) → closes_one nests 0 ≡ true → title_level h.Break nests 0 ≡ length nests - 1
 level_closed nests e = grind (arith, nat_tests)
 
-breaks_not : (strict : Bool) (depth whole : ℕ) (walk : Walk) (before : List ℕ)
-    (due : IsDue strict depth whole walk before)
-    → closes_one due.nests 0 ≡ false → Breaks strict depth whole false walk before
-breaks_not strict depth whole walk before due none = record {
+breaks_not : (allowed : Spelling) (depth whole : ℕ) (walk : Walk) (before : List ℕ)
+    (due : IsDue allowed depth whole walk before)
+    → closes_one due.nests 0 ≡ false → Breaks allowed depth whole false walk before
+breaks_not allowed depth whole walk before due none = record {
   nests = due.nests;
   within = due.within;
   level = due.keeps.used ∙ sym (level_open due.nests none);
@@ -286,40 +290,40 @@ breaks_not strict depth whole walk before due none = record {
 outside_no_break : (nests : List Nest) → length nests ≡ 0 → closes_one nests 0 ≡ false
 outside_no_break nests e = grind arith
 
-pub break_outside : (strict : Bool) (depth whole : ℕ) (walk : Walk) (before : List ℕ)
-    → IsDue strict depth whole walk before → walk.used ≡ 0
-    → Breaks strict depth whole false walk before
-break_outside strict depth whole walk before due none = grind (arith, nat_tests, breaks_not, before, outside_no_break)
+pub break_outside : (allowed : Spelling) (depth whole : ℕ) (walk : Walk) (before : List ℕ)
+    → IsDue allowed depth whole walk before → walk.used ≡ 0
+    → Breaks allowed depth whole false walk before
+break_outside allowed depth whole walk before due none = grind (arith, nat_tests, breaks_not, before, outside_no_break)
 
 -- A break may stand exactly if the innermost nest may be closed.
 closes_as_kept : (depth : ℕ) (walk : Walk) (nests : List Nest) → KeepsNests depth walk nests → (walk.used ≡ 0 → ⊥)
     → closes_one nests 0 ≡ closes (remaining_at walk.levels (walk.used - 1))
 closes_as_kept depth walk nests keeps some = grind (arith, takes_more)
 
-pub break_refused : (strict : Bool) (depth whole : ℕ) (walk : Walk) (before : List ℕ)
-    → IsDue strict depth whole walk before
+pub break_refused : (allowed : Spelling) (depth whole : ℕ) (walk : Walk) (before : List ℕ)
+    → IsDue allowed depth whole walk before
     → (walk.used ≡ 0 → ⊥)
-    → closes (remaining_at walk.levels (walk.used - 1)) ≡ false → Breaks strict depth whole false walk before
-break_refused strict depth whole walk before due some refused =
+    → closes (remaining_at walk.levels (walk.used - 1)) ≡ false → Breaks allowed depth whole false walk before
+break_refused allowed depth whole walk before due some refused =
     grind (arith, nat_tests, breaks_not, before, closes_as_kept, some)
 
-closed_behind : (strict : Bool) (depth whole : ℕ) (walk new : Walk) (before : List ℕ) (nests : List Nest)
-    → StandsBehind strict depth whole nests before
+closed_behind : (allowed : Spelling) (depth whole : ℕ) (walk new : Walk) (before : List ℕ) (nests : List Nest)
+    → StandsBehind allowed depth whole nests before
     → KeepsNests depth walk nests → (walk.used ≡ 0 → ⊥) → closes (remaining_at walk.levels (walk.used - 1)) ≡ true
     → new.levels ≡ walk.levels → new.indexes ≡ walk.indexes → new.used ≡ walk.used - 1 → new.depth ≡ walk.depth
-    → IsBehindItem strict depth whole new keys.Other (before ++ 0xff ∷ [])
-closed_behind strict depth whole walk new before [] within keeps some may same still less deep =
+    → IsBehindItem allowed depth whole new keys.Other (before ++ 0xff ∷ [])
+closed_behind allowed depth whole walk new before [] within keeps some may same still less deep =
     absurd (some keeps.used)
-closed_behind strict depth whole walk new before (nest ∷ nests) within keeps some may same still less deep =
+closed_behind allowed depth whole walk new before (nest ∷ nests) within keeps some may same still less deep =
     let used = keeps.used in
     let kept = keeps.kept in
     let at : walk.used - 1 ≡ length nests = omega (arith, used) in
     let remaining = remaining_at walk.levels (length nests) in
     let closing : closes remaining ≡ true = subst (λ (k : ℕ). closes (remaining_at walk.levels k) ≡ true) at may in
-    let inner = inner_of strict depth whole nest nests before within in
+    let inner = inner_of allowed depth whole nest nests before within in
     let completes =
-    all_closed strict nest.header inner.levels nest.count inner.items remaining kept.0 closing inner.are_items in
-    ends_nest strict depth whole nest nests before (0xff ∷ []) (inner.items ++ 0xff ∷ []) new inner refl completes
+    all_closed allowed nest.header inner.levels nest.count inner.items remaining kept.0 closing inner.are_items in
+    ends_nest allowed depth whole nest nests before (0xff ∷ []) (inner.items ++ 0xff ∷ []) new inner refl completes
     (record {
       kept = subst (λ (z : List Remaining). AreKept z nests) (sym same) kept.2;
       used = less ∙ at;
@@ -329,13 +333,13 @@ closed_behind strict depth whole walk new before (nest ∷ nests) within keeps s
       wide = ap length still ∙ keeps.wide;
     })
 
-pub break_closes : (strict : Bool) (depth whole : ℕ) (walk new : Walk) (before : List ℕ)
-    → IsDue strict depth whole walk before
+pub break_closes : (allowed : Spelling) (depth whole : ℕ) (walk new : Walk) (before : List ℕ)
+    → IsDue allowed depth whole walk before
     → (walk.used ≡ 0 → ⊥)
     → closes (remaining_at walk.levels (walk.used - 1)) ≡ true
     → new.levels ≡ walk.levels → new.indexes ≡ walk.indexes → new.used ≡ walk.used - 1 → new.depth ≡ walk.depth
-    → Breaks strict depth whole true new before
-break_closes strict depth whole walk new before due some may same still less deep =
+    → Breaks allowed depth whole true new before
+break_closes allowed depth whole walk new before due some may same still less deep =
     let closing = closes_as_kept depth walk due.nests due.keeps some ∙ may in
     let used = due.keeps.used in
     record {
@@ -343,31 +347,32 @@ break_closes strict depth whole walk new before due some may same still less dee
       within = due.within;
       level = less ∙ (ap (λ (k : ℕ). k - 1) used ∙ sym (level_closed due.nests closing));
       may = closing;
-      behind = λ e. closed_behind strict depth whole walk new before due.nests due.within due.keeps some may same still
+      behind = λ e. closed_behind allowed depth whole walk new before due.nests due.within due.keeps some may same still
           less deep;
     }
 
 -- ---- the end of an item
 
 -- An item outside of all nests is one more whole item.
-outside_more : (strict : Bool) (depth whole levels : ℕ) (nests : List Nest) (before item : List ℕ)
-    → StandsBehind strict depth whole nests before
-    → length nests ≡ 0 → levels ≡ depth → IsItem strict levels item → StandsBehind strict depth (suc whole) []
+outside_more : (allowed : Spelling) (depth whole levels : ℕ) (nests : List Nest) (before item : List ℕ)
+    → StandsBehind allowed depth whole nests before
+    → length nests ≡ 0 → levels ≡ depth → IsItem allowed levels item → StandsBehind allowed depth (suc whole) []
     (before ++ item)
-outside_more strict depth whole levels nests before item stands none same is_item = grind (arith, outside, items_item)
+outside_more allowed depth whole levels nests before item stands none same is_item = grind (arith, outside, items_item)
 
-pub end_outside : (strict : Bool) (depth whole : ℕ) (walk : Walk) (key : Key) (bytes : List ℕ)
-    → IsBehindItem strict depth whole walk key bytes → walk.used ≡ 0
-    → IsDueBehind strict depth whole walk bytes
-end_outside strict depth whole walk key bytes behind none =
+pub end_outside : (allowed : Spelling) (depth whole : ℕ) (walk : Walk) (key : Key) (bytes : List ℕ)
+    → IsBehindItem allowed depth whole walk key bytes → walk.used ≡ 0
+    → IsDueBehind allowed depth whole walk bytes
+end_outside allowed depth whole walk key bytes behind none =
     let used = behind.keeps.used in
     let left = behind.left in
     let empty : length behind.nests ≡ 0 = omega (arith, used, none) in
     let same : behind.levels ≡ depth = omega (arith, left, empty) in
-    due_outside strict depth whole walk bytes none (record {
+    due_outside allowed depth whole walk bytes none (record {
       nests = [];
-      within = subst (λ (z : List ℕ). StandsBehind strict depth (suc whole) [] z) (sym behind.is)
-          (outside_more strict depth whole behind.levels behind.nests behind.before behind.item behind.within empty same
+      within = subst (λ (z : List ℕ). StandsBehind allowed depth (suc whole) [] z) (sym behind.is)
+          (outside_more allowed depth whole behind.levels behind.nests behind.before behind.item behind.within empty
+          same
           behind.is_item);
       keeps = record {
         kept = tt;
@@ -393,33 +398,34 @@ pub record Steps (walk new : Walk) (after : Remaining) (next : Option ℕ) : Typ
   pub deep : new.depth ≡ walk.depth
 
 -- The last item within a nest is the one that came.
-key_kept : (strict : Bool) (depth whole levels : ℕ) (nest : Nest) (outer : List Nest) (before item : List ℕ) (key : Key)
-    → StandsBehind strict depth whole (nest ∷ outer) before → suc (length outer) + levels ≡ depth
-    → IsItem strict levels item → NamesItem item key → (earlier : ℕ) → suc nest.count ≡ suc earlier
+key_kept : (allowed : Spelling) (depth whole levels : ℕ) (nest : Nest) (outer : List Nest) (before item : List ℕ)
+    (key : Key)
+    → StandsBehind allowed depth whole (nest ∷ outer) before → suc (length outer) + levels ≡ depth
+    → IsItem allowed levels item → NamesItem item key → (earlier : ℕ) → suc nest.count ≡ suc earlier
     → IsBehindKey depth nest.header earlier outer (before ++ item) key
-key_kept strict depth whole levels nest outer before item key stands left is_item names earlier same =
+key_kept allowed depth whole levels nest outer before item key stands left is_item names earlier same =
     let count : nest.count ≡ earlier = omega (arith, same) in
     record {
       before = before;
       item = item;
       levels = levels;
       due = subst (λ (n : ℕ). StandsWithin depth (record { header = nest.header; count = n } ∷ outer) before) count
-          (whole, stands_any strict depth whole (nest ∷ outer) before stands);
+          (whole, stands_any allowed depth whole (nest ∷ outer) before stands);
       left = left;
-      is_item = items_looser false strict (λ no. absurd cc) levels 1 item is_item;
+      is_item = items_looser Any allowed (λ no. absurd cc) levels 1 item is_item;
       is = refl;
       names = names;
     }
 
-more_due : (strict : Bool) (depth whole : ℕ) (walk new : Walk) (after : Remaining) (step : Option ℕ)
+more_due : (allowed : Spelling) (depth whole : ℕ) (walk new : Walk) (after : Remaining) (step : Option ℕ)
     → Steps walk new after step
-    → (nests : List Nest) (before item : List ℕ) (levels : ℕ) → StandsBehind strict depth whole nests before
-    → KeepsNests depth walk nests → length nests + levels ≡ depth → IsItem strict levels item
+    → (nests : List Nest) (before item : List ℕ) (levels : ℕ) → StandsBehind allowed depth whole nests before
+    → KeepsNests depth walk nests → length nests + levels ≡ depth → IsItem allowed levels item
     → NamesItem item new.key → is_done after ≡ false → new.used ≡ walk.used
-    → IsDue strict depth whole new (before ++ item)
-more_due strict depth whole walk new after step s [] before item levels stands keeps left is_item names rest same =
+    → IsDue allowed depth whole new (before ++ item)
+more_due allowed depth whole walk new after step s [] before item levels stands keeps left is_item names rest same =
     absurd (s.some keeps.used)
-more_due strict depth whole walk new after step s (nest ∷ nests) before item levels stands keeps left is_item names
+more_due allowed depth whole walk new after step s (nest ∷ nests) before item levels stands keeps left is_item names
     rest same =
     let used = keeps.used in
     let few = s.within in
@@ -435,11 +441,11 @@ more_due strict depth whole walk new after step s (nest ∷ nests) before item l
     s.counts nest.header count
     (subst (λ (k : ℕ). IsRemaining nest.header count (remaining_at walk.levels k)) (sym at) kept.0) in
     let next : Nest = record { header = nest.header; count = suc count } in
-    let inner = inner_of strict depth whole nest nests before stands in
+    let inner = inner_of allowed depth whole nest nests before stands in
     let more = takes_more nest.header (suc count) after is rest in
     record {
       nests = next ∷ nests;
-      within = goes_on strict depth whole levels nest nests before item inner left is_item more.0;
+      within = goes_on allowed depth whole levels nest nests before item inner left is_item more.0;
       keeps = record {
         kept = subst (λ (z : List Remaining). AreKept z (next ∷ nests)) (sym s.written)
             (kept_more walk.levels nests next (walk.used - 1) after at (omega (arith, used, long, few)) is rest
@@ -452,30 +458,30 @@ more_due strict depth whole walk new after step s (nest ∷ nests) before item l
             keeps.placed.1);
         wide = ap length s.placed ∙ (length-set walk.indexes (walk.used - 1) step ∙ wide);
       };
-      keyed = key_kept strict depth whole levels nest nests before item new.key stands left is_item names;
+      keyed = key_kept allowed depth whole levels nest nests before item new.key stands left is_item names;
     }
 
-pub end_goes_on : (strict : Bool) (depth whole : ℕ) (walk new : Walk) (after : Remaining) (step : Option ℕ)
+pub end_goes_on : (allowed : Spelling) (depth whole : ℕ) (walk new : Walk) (after : Remaining) (step : Option ℕ)
     → Steps walk new after step
     → (bytes : List ℕ)
-    → IsBehindItem strict depth whole walk new.key bytes → is_done after ≡ false → new.used ≡ walk.used
-    → IsDueBehind strict depth whole new bytes
-end_goes_on strict depth whole walk new after step s bytes behind rest same =
+    → IsBehindItem allowed depth whole walk new.key bytes → is_done after ≡ false → new.used ≡ walk.used
+    → IsDueBehind allowed depth whole new bytes
+end_goes_on allowed depth whole walk new after step s bytes behind rest same =
     let some = s.some in
-    within_nest strict depth whole new.used new bytes refl (omega (arith, same, some))
-    (subst (λ (z : List ℕ). IsDue strict depth whole new z) (sym behind.is)
-    (more_due strict depth whole walk new after step s behind.nests behind.before behind.item behind.levels
+    within_nest allowed depth whole new.used new bytes refl (omega (arith, same, some))
+    (subst (λ (z : List ℕ). IsDue allowed depth whole new z) (sym behind.is)
+    (more_due allowed depth whole walk new after step s behind.nests behind.before behind.item behind.levels
     behind.within behind.keeps behind.left behind.is_item behind.names rest same))
 
-level_ends : (strict : Bool) (depth whole : ℕ) (walk new : Walk) (after : Remaining) (step : Option ℕ)
+level_ends : (allowed : Spelling) (depth whole : ℕ) (walk new : Walk) (after : Remaining) (step : Option ℕ)
     → Steps walk new after step
-    → (nests : List Nest) (before item : List ℕ) (levels : ℕ) → StandsBehind strict depth whole nests before
-    → KeepsNests depth walk nests → length nests + levels ≡ depth → IsItem strict levels item
+    → (nests : List Nest) (before item : List ℕ) (levels : ℕ) → StandsBehind allowed depth whole nests before
+    → KeepsNests depth walk nests → length nests + levels ≡ depth → IsItem allowed levels item
     → is_done after ≡ true → new.used ≡ walk.used - 1
-    → IsBehindItem strict depth whole new keys.Other (before ++ item)
-level_ends strict depth whole walk new after step s [] before item levels stands keeps left is_item done less =
+    → IsBehindItem allowed depth whole new keys.Other (before ++ item)
+level_ends allowed depth whole walk new after step s [] before item levels stands keeps left is_item done less =
     absurd (s.some keeps.used)
-level_ends strict depth whole walk new after step s (nest ∷ nests) before item levels stands keeps left is_item done
+level_ends allowed depth whole walk new after step s (nest ∷ nests) before item levels stands keeps left is_item done
     less =
     let used = keeps.used in
     let few = s.within in
@@ -485,13 +491,13 @@ level_ends strict depth whole walk new after step s (nest ∷ nests) before item
     let is : IsRemaining nest.header (suc count) after =
     s.counts nest.header count
     (subst (λ (k : ℕ). IsRemaining nest.header count (remaining_at walk.levels k)) (sym at) kept.0) in
-    let inner = inner_of strict depth whole nest nests before stands in
+    let inner = inner_of allowed depth whole nest nests before stands in
     let level = inner.level in
     let same : levels ≡ inner.levels = omega (arith, level, left) in
-    let item' = subst (λ (n : ℕ). IsItem strict n item) same is_item in
-    let all = items_item strict inner.levels count inner.items item inner.are_items item' in
-    let completes = all_read strict nest.header inner.levels (suc count) (inner.items ++ item) after is done all in
-    ends_nest strict depth whole nest nests before item (inner.items ++ item) new inner refl completes (record {
+    let item' = subst (λ (n : ℕ). IsItem allowed n item) same is_item in
+    let all = items_item allowed inner.levels count inner.items item inner.are_items item' in
+    let completes = all_read allowed nest.header inner.levels (suc count) (inner.items ++ item) after is done all in
+    ends_nest allowed depth whole nest nests before item (inner.items ++ item) new inner refl completes (record {
       kept = subst (λ (z : List Remaining). AreKept z nests) (sym s.written)
           (kept_below walk.levels nests (walk.used - 1) after (omega (arith, at)) kept.2);
       used = less ∙ at;
@@ -502,14 +508,14 @@ level_ends strict depth whole walk new after step s (nest ∷ nests) before item
       wide = ap length s.placed ∙ (length-set walk.indexes (walk.used - 1) step ∙ keeps.wide);
     })
 
-pub end_of_level : (strict : Bool) (depth whole : ℕ) (walk new : Walk) (after : Remaining) (step : Option ℕ)
+pub end_of_level : (allowed : Spelling) (depth whole : ℕ) (walk new : Walk) (after : Remaining) (step : Option ℕ)
     → Steps walk new after step
     → (key : Key) (bytes : List ℕ)
-    → IsBehindItem strict depth whole walk key bytes → is_done after ≡ true
-    → new.used ≡ walk.used - 1 → IsBehindItem strict depth whole new keys.Other bytes
-end_of_level strict depth whole walk new after step s key bytes behind done less =
-    subst (λ (z : List ℕ). IsBehindItem strict depth whole new keys.Other z) (sym behind.is)
-    (level_ends strict depth whole walk new after step s behind.nests behind.before behind.item behind.levels
+    → IsBehindItem allowed depth whole walk key bytes → is_done after ≡ true
+    → new.used ≡ walk.used - 1 → IsBehindItem allowed depth whole new keys.Other bytes
+end_of_level allowed depth whole walk new after step s key bytes behind done less =
+    subst (λ (z : List ℕ). IsBehindItem allowed depth whole new keys.Other z) (sym behind.is)
+    (level_ends allowed depth whole walk new after step s behind.nests behind.before behind.item behind.levels
     behind.within behind.keeps behind.left behind.is_item done less)
 
 -- ---- the place of the item that is due
@@ -518,9 +524,9 @@ end_of_level strict depth whole walk new after step s key bytes behind done less
 no_place : (depth : ℕ) (nests : List Nest) (before : List ℕ) → length nests ≡ 0 → IsPlace depth nests before w.Nothing
 no_place depth nests before none = grind arith
 
-pub place_outside : (strict : Bool) (depth whole : ℕ) (walk : Walk) (before : List ℕ)
-    (due : IsDue strict depth whole walk before) → walk.used ≡ 0 → IsPlace depth due.nests before w.Nothing
-place_outside strict depth whole walk before due none =
+pub place_outside : (allowed : Spelling) (depth whole : ℕ) (walk : Walk) (before : List ℕ)
+    (due : IsDue allowed depth whole walk before) → walk.used ≡ 0 → IsPlace depth due.nests before w.Nothing
+place_outside allowed depth whole walk before due none =
     no_place depth due.nests before (sym due.keeps.used ∙ none)
 
 -- A value is due after an odd number of items.
@@ -586,10 +592,10 @@ value_kept depth walk (nest ∷ nests) before keeps keyed some due =
     value_place depth nest.header nest.count nests before walk.key (remaining_at walk.levels (length nests))
     keeps.kept.0 (subst (λ (n : ℕ). is_value (remaining_at walk.levels n) ≡ true) at due) keyed
 
-pub place_value : (strict : Bool) (depth whole : ℕ) (walk : Walk) (before : List ℕ)
-    (due : IsDue strict depth whole walk before) → (walk.used ≡ 0 → ⊥)
+pub place_value : (allowed : Spelling) (depth whole : ℕ) (walk : Walk) (before : List ℕ)
+    (due : IsDue allowed depth whole walk before) → (walk.used ≡ 0 → ⊥)
     → is_value (remaining_at walk.levels (walk.used - 1)) ≡ true → IsPlace depth due.nests before (w.Key walk.key)
-place_value strict depth whole walk before due some value =
+place_value allowed depth whole walk before due some value =
     value_kept depth walk due.nests before due.keeps due.keyed some value
 
 index_kept : (depth : ℕ) (walk : Walk) (nests : List Nest) (before : List ℕ) (within : Within)
@@ -604,9 +610,9 @@ index_kept depth walk (nest ∷ nests) before within keeps some none same =
     keeps.kept.0 (subst (λ (n : ℕ). is_value (remaining_at walk.levels n) ≡ false) at none)
     (same ∙ ap place_of (ap (index_at walk.indexes) at ∙ keeps.placed.0))
 
-pub place_index : (strict : Bool) (depth whole : ℕ) (walk : Walk) (before : List ℕ) (within : Within)
-    (due : IsDue strict depth whole walk before) → (walk.used ≡ 0 → ⊥)
+pub place_index : (allowed : Spelling) (depth whole : ℕ) (walk : Walk) (before : List ℕ) (within : Within)
+    (due : IsDue allowed depth whole walk before) → (walk.used ≡ 0 → ⊥)
     → is_value (remaining_at walk.levels (walk.used - 1)) ≡ false
     → within ≡ place_of (index_at walk.indexes (walk.used - 1)) → IsPlace depth due.nests before within
-place_index strict depth whole walk before within due some none same =
+place_index allowed depth whole walk before within due some none same =
     index_kept depth walk due.nests before within due.keeps some none same

@@ -1,5 +1,6 @@
 -- The body of a byte string that is shown as the item that it is (RFC 8949, 3.4.5.1).
 use Rattle.std.specs.Prelude.{◌≡◌, ℕ, ◌+◌, ◌<◌, ◌^◌, Bool, true, List, [], length, Option}
+use Rattle.ciborium_ll_grammar.specs.declared.spelling.Spelling.{Spelling}
 use Rattle.ciborium_ll.specs.Items.{IsItem}
 use Rattle.cbor_dump.specs.Dumps.{Lines}
 use Rattle.cbor_dump.specs.Levels.{Line, Meant}
@@ -17,6 +18,6 @@ pub record DrawsBody {S : Type 0} (base : S → ℕ) (drawn : S → Option (List
   pub kept : drawn new ≡ drawn behind
 
 -- A body is shown as an item exactly if it is one, and its offsets can be counted. `81 00` is one, and `81` is none.
-pub record IsShownAs (strict : Bool) (depth offset : ℕ) (body : List ℕ) (is : Bool) : Type 0 where
-  pub shown : is ≡ true → IsItem strict depth body
-  pub item : IsItem strict depth body → offset + length body + 16 < 2 ^ 64 → is ≡ true
+pub record IsShownAs (allowed : Spelling) (depth offset : ℕ) (body : List ℕ) (is : Bool) : Type 0 where
+  pub shown : is ≡ true → IsItem allowed depth body
+  pub item : IsItem allowed depth body → offset + length body + 16 < 2 ^ 64 → is ≡ true

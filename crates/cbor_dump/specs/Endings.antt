@@ -1,5 +1,6 @@
 -- The lines of a dump that are at fault: at most the last line.
-use Rattle.std.specs.Prelude.{◌≡◌, ◌⊎◌, ℕ, Bool, List, [], ◌∷◌, ◌++◌, Result, Ok, Err}
+use Rattle.std.specs.Prelude.{◌≡◌, ◌⊎◌, ℕ, List, [], ◌∷◌, ◌++◌, Result, Ok, Err}
+use Rattle.ciborium_ll_grammar.specs.declared.spelling.Spelling.{Spelling}
 use Rattle.ciborium_ll.specs.Types.Error.{Error}
 use Rattle.ciborium_ll.specs.Types.Error.TheVariants as e
 use Rattle.cbor_skip.specs.declared.SkipError.TheVariants as s
@@ -31,7 +32,7 @@ EndAtFault (line ∷ (next ∷ lines)) = HasMeaning line.meaning × EndAtFault (
 -- cut `19`.
 abbrev pub EndAs : Ending → List Line → Type 0
 EndAs Meant lines = AreMeant lines
-EndAs (Refused strict) lines = EndAtFault lines
+EndAs (Refused allowed) lines = EndAtFault lines
 EndAs Failed lines = AreMeant lines ⊎ EndAtFault lines
 EndAs Stopped lines = AreMeant lines ⊎ EndAtFault lines
 
@@ -52,20 +53,20 @@ LeavesAs how bytes left = Unit {0}
 
 -- How the lines of a dump end after a read stopped. The last line is at fault if the bytes are no item, and otherwise
 -- it may be. For the error of `1c` it is `Refused`, and for that of a cut `19` it is `Failed`.
-abbrev pub ending_of : {E : Type 0} → Bool → Error E → Ending
-ending_of strict (e.Syntax at) = Refused strict
-ending_of strict (e.Io fault) = Failed
-ending_of strict error = Stopped
+abbrev pub ending_of : {E : Type 0} → Spelling → Error E → Ending
+ending_of allowed (e.Syntax at) = Refused allowed
+ending_of allowed (e.Io fault) = Failed
+ending_of allowed error = Stopped
 
 -- How the lines end before an error of the dump. A break that may not stand there and the title of a nest too deep have
 -- their meaning (RFC 7049, 2.2). For `Break(1)`, as `01 ff` gives, it is `Meant`.
-abbrev pub ending_before : {E W : Type 0} → Bool → DumpError E W → Ending
-ending_before strict (d.Item (s.Read error)) = ending_of strict error
-ending_before strict (d.Item why) = Meant
-ending_before strict (d.Rows fault) = Stopped
+abbrev pub ending_before : {E W : Type 0} → Spelling → DumpError E W → Ending
+ending_before allowed (d.Item (s.Read error)) = ending_of allowed error
+ending_before allowed (d.Item why) = Meant
+ending_before allowed (d.Rows fault) = Stopped
 
 -- How the lines end, by the answer. On `Ok` each line says what its bytes mean. If each row is taken, it is `Meant` for
 -- `82 01 02`, and `Refused` for `82 1c`.
-abbrev pub ending : {A E W : Type 0} → Bool → Result A (DumpError E W) → Ending
-ending strict (Ok value) = Meant
-ending strict (Err error) = ending_before strict error
+abbrev pub ending : {A E W : Type 0} → Spelling → Result A (DumpError E W) → Ending
+ending allowed (Ok value) = Meant
+ending allowed (Err error) = ending_before allowed error

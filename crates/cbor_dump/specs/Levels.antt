@@ -1,6 +1,8 @@
 -- The level of each line of a dump: how many tags, arrays, maps and opens are around it.
 use Rattle.std.specs.Prelude.{◌≡◌, ℕ, zero, suc, ◌+◌, ◌-◌, ◌*◌, ◌<◌, ◌≤◌, ◌⊎◌, Bool, true, false, List, [], ◌∷◌, ◌++◌}
 use Rattle.std.specs.Prelude.{length, min, ◌^◌, Option, Some, None, if◌then◌else◌}
+use Rattle.ciborium_ll_grammar.specs.declared.spelling.Spelling.{Spelling}
+use Rattle.ciborium_ll_grammar.specs.declared.spelling.Spelling.TheVariants.{Any}
 use Rattle.ciborium_ll.specs.Types.Header.{Header}
 use Rattle.ciborium_ll.specs.Types.Header.TheVariants as h
 use Rattle.ciborium_ll.specs.Title.{IsTitle}
@@ -26,22 +28,22 @@ pub record Nest : Type 0 where
   pub header : Header
   pub count : ℕ
 
--- `StandsBehind strict depth whole nests bytes`: the bytes begin a sequence of items to the depth, and an item is due
+-- `StandsBehind allowed depth whole nests bytes`: the bytes begin a sequence of items to the depth, and an item is due
 -- after them within exactly these nests, the innermost first. After `whole` items each nest has its title and some of
--- its items, and more of them are due (RFC 7049, 2.1 to 2.4). If `strict`, all stand in their shortest spelling. After
--- `83 01 02` an item is due within an array of 3 items that has 2.
-pub data StandsBehind (strict : Bool) (depth whole : ℕ) : List Nest → List ℕ → Type 0 where
-  outside : {items : List ℕ} → AreItems strict depth whole items → StandsBehind strict depth whole [] items
+-- its items, and more of them are due (RFC 7049, 2.1 to 2.4). If `allowed` is `Shortest`, all stand in their shortest
+-- spelling. After `83 01 02` an item is due within an array of 3 items that has 2.
+pub data StandsBehind (allowed : Spelling) (depth whole : ℕ) : List Nest → List ℕ → Type 0 where
+  outside : {items : List ℕ} → AreItems allowed depth whole items → StandsBehind allowed depth whole [] items
   inside : {levels count : ℕ} {nests : List Nest} {before title items : List ℕ} {header : Header}
-      → StandsBehind strict depth whole nests before → length nests + suc levels ≡ depth → IsTitle title header
-      → IsTakenTitle strict title header → TakesMore header count → AreItems strict levels count items
-      → StandsBehind strict depth whole (record { header = header; count = count } ∷ nests)
+      → StandsBehind allowed depth whole nests before → length nests + suc levels ≡ depth → IsTitle title header
+      → IsTakenTitle allowed title header → TakesMore header count → AreItems allowed levels count items
+      → StandsBehind allowed depth whole (record { header = header; count = count } ∷ nests)
       (before ++ (title ++ items))
 
 -- `StandsBehind` in any spelling, after any number of whole items. A level does not depend on the spelling (RFC 7049,
 -- 2.1, 2.2.1 and 2.4; RFC 8742). After `01 98 02` an item is due within one array.
 abbrev pub StandsWithin : ℕ → List Nest → List ℕ → Type 0
-StandsWithin depth nests bytes = (whole : ℕ) × StandsBehind false depth whole nests bytes
+StandsWithin depth nests bytes = (whole : ℕ) × StandsBehind Any depth whole nests bytes
 
 -- `AreOpen kind opens bytes bodies`: the bytes are `opens` opens of the kind, each with strings after it, and none
 -- closed. The bodies are those of the strings so far (RFC 7049, 2.2.2). `5f 41 61` is one open with the body `61`.
@@ -96,7 +98,7 @@ pub record IsBehindKey (depth : ℕ) (header : Header) (count : ℕ) (nests : Li
   pub levels : ℕ
   pub due : StandsWithin depth (record { header = header; count = count } ∷ nests) before
   pub left : suc (length nests) + levels ≡ depth
-  pub is_item : IsItem false levels item
+  pub is_item : IsItem Any levels item
   pub is : bytes ≡ before ++ item
   pub names : NamesItem item key
 
@@ -176,22 +178,22 @@ pub record HasBody (depth : ℕ) (before : List ℕ) (kind : Kind) (line : Line)
 -- line then has a meaning, or the last line was cut and is at fault, as `19`.
 pub data Ending : Type 0 where
   Meant : Ending
-  Refused : Bool → Ending
+  Refused : Spelling → Ending
   Failed : Ending
   Stopped : Ending
 
 -- All bytes of a refused title, within this many opens of the kind. Its first byte is refused, as `1c`, or only strict
 -- titles are taken and it is not strict, as `18 17`. Or the string may not contain it, as `01` after `5f` (RFC 7049,
 -- 2.1, 2.2.2 and 3.9).
-abbrev pub IsNoTitle : Bool → Kind → ℕ → List ℕ → Type 0
-IsNoTitle strict kind opens bytes = AnswersTitle strict bytes None
-    ⊎ ((0 < opens) × ((header : Header) × IsTitle bytes header × IsRefusedIn strict kind header))
+abbrev pub IsNoTitle : Spelling → Kind → ℕ → List ℕ → Type 0
+IsNoTitle allowed kind opens bytes = AnswersTitle allowed bytes None
+    ⊎ ((0 < opens) × ((header : Header) × IsTitle bytes header × IsRefusedIn allowed kind header))
 
 -- The bytes of a title that a line at fault has, by how the lines end: all of a refused title, or the first byte of a
 -- title that was cut. For `Refused` they can be `1c`, and for `Failed` `19`.
 abbrev pub IsTitleFault : Ending → Kind → ℕ → List ℕ → Type 0
 IsTitleFault Meant kind opens bytes = ⊥
-IsTitleFault (Refused strict) kind opens bytes = IsNoTitle strict kind opens bytes
+IsTitleFault (Refused allowed) kind opens bytes = IsNoTitle allowed kind opens bytes
 IsTitleFault Failed kind opens bytes = IsFirstByte bytes
 IsTitleFault Stopped kind opens bytes = IsFirstByte bytes
 
@@ -200,7 +202,7 @@ IsTitleFault Stopped kind opens bytes = IsFirstByte bytes
 -- and a `c3` for `Failed`.
 abbrev pub IsTextFault : Ending → ℕ → List ℕ → Type 0
 IsTextFault Meant left bytes = ⊥
-IsTextFault (Refused strict) left bytes = IsNoText [] left bytes
+IsTextFault (Refused allowed) left bytes = IsNoText [] left bytes
 IsTextFault Failed left bytes = IsCutText left bytes
 IsTextFault Stopped left bytes = IsCutText left bytes
 

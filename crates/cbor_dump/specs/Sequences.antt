@@ -1,23 +1,24 @@
 -- Sequences of items (RFC 8742), and the answers of `check` about them.
-use Rattle.std.specs.Prelude.{◌≡◌, ℕ, ◌+◌, ◌-◌, Bool, List, [], ◌++◌, length, Some, Result, Ok, Err}
+use Rattle.std.specs.Prelude.{◌≡◌, ℕ, ◌+◌, ◌-◌, List, [], ◌++◌, length, Some, Result, Ok, Err}
+use Rattle.ciborium_ll_grammar.specs.declared.spelling.Spelling.{Spelling}
 use Rattle.ciborium_ll.specs.Types.Read.{Ghosts}
 use Rattle.ciborium_ll.specs.Types.Decoder.{Decoder}
 use Rattle.ciborium_ll.specs.Types.Error.TheVariants as e
 use Rattle.ciborium_ll.specs.Items.{AreItems}
-use Rattle.ciborium_ll.specs.Decoding.{view, ReadsPast, strict_of}
+use Rattle.ciborium_ll.specs.Decoding.{view, ReadsPast, spelling_of}
 use Rattle.cbor_skip.specs.declared.SkipError.{SkipError}
 use Rattle.cbor_skip.specs.declared.SkipError.TheVariants as s
 use Rattle.cbor_skip.specs.Failures.{CountsItemFailure}
 use Rattle.cbor_skip.specs.ItemFaults.{BeginsWithItem}
-use Rattle.cbor_skip.specs.Skipping.{SkipsItem, strictness}
+use Rattle.cbor_skip.specs.Skipping.{SkipsItem, allowed_by}
 use Rattle.cbor_skip.specs.SkippingTold.{SkipsTold}
 use Rattle.cbor_dump.specs.declared.sequence.Sequence.{Sequence}
 use Rattle.cbor_dump.specs.declared.sequence.Stopped.{Stopped}
 
 -- The bytes are exactly items of at most that depth, one after the other, in any spelling or in the shortest one (RFC
 -- 8742, 2). `01 80` is a sequence of two items.
-abbrev pub IsSequence : Bool → ℕ → List ℕ → Type 0
-IsSequence strict depth bytes = (count : ℕ) × AreItems strict depth count bytes
+abbrev pub IsSequence : Spelling → ℕ → List ℕ → Type 0
+IsSequence allowed depth bytes = (count : ℕ) × AreItems allowed depth count bytes
 
 -- The error says that no byte of an item came: the reader failed, and the offset is still that of the item. For an item
 -- at 1 it is so if the reader failed at 1, and not if it failed at 2.
@@ -43,7 +44,7 @@ module _ {R E : Type 0} (source : Ghosts R E) where
   -- `count` items were read, by a strict decoder in their shortest spelling. The bytes `01 80` are two items.
   pub record ReadsItems (depth count : ℕ) (old new : Decoder R) : Type 0 where
     pub bytes : List ℕ
-    pub are_items : AreItems (strictness old) depth count bytes
+    pub are_items : AreItems (allowed_by old) depth count bytes
     pub passed : ReadsPast source old bytes new
 
   -- Items were read, and the reader failed at a further item before it consumed a byte. For `01 80` there are 2 items
@@ -74,7 +75,7 @@ module _ {R E : Type 0} (source : Ghosts R E) where
   -- byte is left. The bytes `82 01 02 03` are 2 items.
   pub record FindsSequence (depth : ℕ) (due : List ℕ) (old : Decoder R) (sequence : Sequence E) (new : Decoder R)
       : Type 0 where
-    pub are_items : AreItems (strict_of old) depth sequence.items due
+    pub are_items : AreItems (spelling_of old) depth sequence.items due
     pub counted : sequence.bytes ≡ length due
     pub left : view source new ≡ Some []
     pub offset : new.offset ≡ old.offset + length due
@@ -85,14 +86,14 @@ module _ {R E : Type 0} (source : Ghosts R E) where
       : Type 0 where
     pub before : List ℕ
     pub ahead : List ℕ
-    pub are_items : AreItems (strict_of old) depth stopped.items before
+    pub are_items : AreItems (spelling_of old) depth stopped.items before
     pub is : due ≡ before ++ ahead
     pub place : stopped.place ≡ old.offset + length before
-    pub no_item : BeginsWithItem (strict_of old) depth ahead → ⊥
+    pub no_item : BeginsWithItem (spelling_of old) depth ahead → ⊥
     pub no_end : ahead ≡ [] → ⊥
     pub between : Decoder R
     pub at : between.offset ≡ stopped.place
-    pub met : SkipsTold source (strict_of old) depth ahead between (Err stopped.error) new
+    pub met : SkipsTold source (spelling_of old) depth ahead between (Err stopped.error) new
 
   -- The reads of `check` with told bytes, by its answer: it reads a sequence, or the items before the fault, and
   -- `SkipsTold` holds of the next item. It is `Ok` for `82 01 02`, and an error for `82 01`.

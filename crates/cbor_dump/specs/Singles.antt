@@ -5,7 +5,7 @@ use Rattle.ciborium_ll.specs.Types.Header.{Header}
 use Rattle.ciborium_ll.specs.Types.Decoder.{Decoder}
 use Rattle.ciborium_ll.specs.Types.Error.{Error}
 use Rattle.ciborium_ll.specs.Types.Error.TheVariants as e
-use Rattle.ciborium_ll.specs.Decoding.{DecoderPullAnswer, strict_of}
+use Rattle.ciborium_ll.specs.Decoding.{DecoderPullAnswer, spelling_of}
 use Rattle.cbor_skip.specs.Failures.{CountsFailure, CountsItemFailure}
 use Rattle.cbor_skip.specs.ItemFaults.{BeginsWithItem}
 use Rattle.cbor_skip.specs.Skipping.{ReadsItem, SkipsItem}
@@ -61,12 +61,13 @@ module _ {R E : Type 0} (source : Ghosts R E) where
   -- The bytes begin with an item, and more bytes follow it from this offset on. In `01 80`, read from the offset 0,
   -- more follows at the offset 1.
   pub record HasMore (depth : ℕ) (due : List ℕ) (old : Decoder R) (at : ℕ) : Type 0 where
-    pub front : BeginsWithItem (strict_of old) depth due
+    pub front : BeginsWithItem (spelling_of old) depth due
     pub some : front.rest ≡ [] → ⊥
     pub place : at ≡ old.offset + length front.item
 
   -- The reads of `check_one` with told bytes, by its answer. It is `Ok` for `01`, and `More` at 1 for `01 80`.
   abbrev pub ChecksOneTold : ℕ → List ℕ → Decoder R → Result (Sequence E) (NotOne E) → Decoder R → Type 0
   ChecksOneTold depth due old (Ok sequence) new = (sequence.items ≡ 1) × FindsSequence source depth due old sequence new
-  ChecksOneTold depth due old (Err (n.Item error)) new = SkipsTold source (strict_of old) depth due old (Err error) new
+  ChecksOneTold depth due old (Err (n.Item error)) new =
+      SkipsTold source (spelling_of old) depth due old (Err error) new
   ChecksOneTold depth due old (Err (n.More at next)) new = HasMore depth due old at

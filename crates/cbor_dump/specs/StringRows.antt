@@ -1,7 +1,9 @@
 -- The rows of a string.
-use Rattle.std.specs.Prelude.{◌≡◌, ℕ, Bool, false, List, [], ◌∷◌, ◌++◌, length, Option, Some, None, Result, Ok}
+use Rattle.std.specs.Prelude.{◌≡◌, ℕ, List, [], ◌∷◌, ◌++◌, length, Option, Some, None, Result, Ok}
 use Rattle.std.specs.Prelude.{Err}
 use Rattle.std.specs.Prelude.{OnOk}
+use Rattle.ciborium_ll_grammar.specs.declared.spelling.Spelling.{Spelling}
+use Rattle.ciborium_ll_grammar.specs.declared.spelling.Spelling.TheVariants.{Any}
 use Rattle.ciborium_ll.specs.Types.Read.{Ghosts}
 use Rattle.ciborium_ll.specs.Types.Decoder.{Decoder}
 use Rattle.ciborium_ll.specs.Types.Error.{Error}
@@ -42,28 +44,28 @@ meaning_of k.Text = m.Text
 
 -- The role of a header within an open of the kind. A strict read refuses a further open (RFC 7049, 2.2.2). After `5f`
 -- the title `41` begins a piece of one byte, `5f` is a further open, and `01` may not stand.
-abbrev pub IsPart : Bool → Kind → Header → Part → Type 0
-IsPart strict kind header p.Break = header ≡ h.Break
-IsPart strict kind header (p.Piece len) = header ≡ kind_header kind (Some len)
-IsPart strict kind header p.Open = (header ≡ kind_header kind None) × (strict ≡ false)
-IsPart strict kind header p.Other = IsRefusedIn strict kind header
+abbrev pub IsPart : Spelling → Kind → Header → Part → Type 0
+IsPart allowed kind header p.Break = header ≡ h.Break
+IsPart allowed kind header (p.Piece len) = header ≡ kind_header kind (Some len)
+IsPart allowed kind header p.Open = (header ≡ kind_header kind None) × (allowed ≡ Any)
+IsPart allowed kind header p.Other = IsRefusedIn allowed kind header
 
 -- The bytes are strings of the kind and then a break, and each body of a text is UTF-8 (RFC 7049, 2.2.2). If only the
 -- shortest spelling is taken, each string has a definite length and a strict title (3.9). `41 61 ff` ends a byte
 -- string.
-pub record EndsString (strict : Bool) (kind : Kind) (bytes : List ℕ) : Type 0 where
+pub record EndsString (allowed : Spelling) (kind : Kind) (bytes : List ℕ) : Type 0 where
   pub strings : List ℕ
   pub bodies : List (List ℕ)
   pub are_strings : AreStrings kind strings bodies
-  pub taken : AreTakenStrings strict kind strings bodies
+  pub taken : AreTakenStrings allowed kind strings bodies
   pub sound : AreWritable kind bodies
   pub is : bytes ≡ strings ++ 0xff ∷ []
 
 -- The bytes that follow the title of a string of this length (RFC 7049, 2.2.2): two bytes after `42`, and strings and a
 -- break after `5f`, as `41 61 ff`.
-abbrev pub IsRest : Bool → Kind → Option ℕ → List ℕ → Type 0
-IsRest strict kind (Some len) bytes = (length bytes ≡ len) × IsWritable kind bytes
-IsRest strict kind None bytes = EndsString strict kind bytes
+abbrev pub IsRest : Spelling → Kind → Option ℕ → List ℕ → Type 0
+IsRest allowed kind (Some len) bytes = (length bytes ≡ len) × IsWritable kind bytes
+IsRest allowed kind None bytes = EndsString allowed kind bytes
 
 module _ {R E : Type 0} (source : Ghosts R E) where
   -- After an open the read of a string failed as that of a skip does (RFC 7049, 2.2.2). The skip has a buffer of at
@@ -86,19 +88,20 @@ module _ {R E W : Type 0} (source : Ghosts R E) where
   -- The bytes that follow a string's title were shown, or a beginning of them. For a definite length they are the body,
   -- and the body of a text is UTF-8. Otherwise they are strings and a break. After `5f` they can be `41 61 ff`.
   pub record ShowsBehindTitle (depth start : ℕ) (drawn then_drawn : Option (List Line)) (before : List ℕ) (kind : Kind)
-      (len : Option ℕ) (strict : Bool) (place : ℕ) (result : Result (Unit {0}) (DumpError E W)) (old new : Decoder R)
+      (len : Option ℕ) (allowed : Spelling) (place : ℕ) (result : Result (Unit {0}) (DumpError E W))
+      (old new : Decoder R)
       : Type 0 where
     pub bytes : List ℕ
-    pub shows : Shows source depth start drawn then_drawn before bytes (ending strict result) old new
-    pub whole : OnOk result (IsRest strict kind len bytes)
-    pub passed : IsInMode strict old → OnOk result (ReadsPast source old bytes new)
-    pub stops : IsInMode strict old → StopsBehindTitle kind len place old result new
+    pub shows : Shows source depth start drawn then_drawn before bytes (ending allowed result) old new
+    pub whole : OnOk result (IsRest allowed kind len bytes)
+    pub passed : IsInMode allowed old → OnOk result (ReadsPast source old bytes new)
+    pub stops : IsInMode allowed old → StopsBehindTitle kind len place old result new
 
   -- As `ShowsBehindTitle`, and what was kept is the body, if the string is short and of definite length. After `42` it
   -- is `01 02`.
   pub record ShowsKept (depth start : ℕ) (drawn then_drawn : Option (List Line)) (before : List ℕ) (kind : Kind)
-      (len : Option ℕ) (strict : Bool) (place : ℕ) (result : Result (Unit {0}) (DumpError E W)) (kept : KeyBody)
+      (len : Option ℕ) (allowed : Spelling) (place : ℕ) (result : Result (Unit {0}) (DumpError E W)) (kept : KeyBody)
       (old new : Decoder R) : Type 0 where
     pub behind :
-        ShowsBehindTitle depth start drawn then_drawn before kind len strict place result old new
+        ShowsBehindTitle depth start drawn then_drawn before kind len allowed place result old new
     pub keeps : OnOk result (IsKept len behind.bytes kept)

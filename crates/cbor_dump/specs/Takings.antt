@@ -1,8 +1,10 @@
 -- The bytes of a row: exactly those that were consumed for it.
-use Rattle.std.specs.Prelude.{◌≡◌, ℕ, ◌+◌, ◌-◌, ◌%◌, ◌<◌, ◌≤◌, min, Bool, IsTrue, List, [], ◌∷◌, ◌++◌, length, take}
+use Rattle.std.specs.Prelude.{◌≡◌, ℕ, ◌+◌, ◌-◌, ◌%◌, ◌<◌, ◌≤◌, min, List, [], ◌∷◌, ◌++◌, length, take}
 use Rattle.std.specs.Prelude.{Option, None}
 use Rattle.std.specs.Prelude.{Some, Result, Ok, Err, OnOk, ◌⊎◌}
 use Rattle.std.specs.Io.KnownBytes.{Consumes}
+use Rattle.ciborium_ll_grammar.specs.declared.spelling.Spelling.{Spelling}
+use Rattle.ciborium_ll_grammar.specs.declared.spelling.Spelling.TheVariants.{Shortest}
 use Rattle.ciborium_ll.specs.Types.Read.{Ghosts}
 use Rattle.ciborium_ll.specs.Types.Decoder.{Decoder}
 use Rattle.ciborium_ll.specs.Types.Error.{Error}
@@ -10,7 +12,7 @@ use Rattle.ciborium_ll.specs.Types.Error.TheVariants as e
 use Rattle.ciborium_ll.specs.Types.Header.{Header}
 use Rattle.ciborium_ll.specs.Title.{IsTitle, IsStrictTitle, IsRefused, affix_len}
 use Rattle.ciborium_ll.specs.Decoding.{failures_of, refusals_of, view, IsSteady, IsUntouched, MovesOn, DecoderPullAnswer}
-use Rattle.ciborium_ll.specs.Decoding.{PullsTitle, Reads, strict_of}
+use Rattle.ciborium_ll.specs.Decoding.{PullsTitle, Reads, spelling_of}
 use Rattle.cbor_dump.specs.declared.taken.Taken.{Taken}
 
 -- The bytes that were read for a row. If its length is 2, they are the first 2 of its 16.
@@ -40,10 +42,10 @@ widest_text = 11
 -- The answer of a decoder, strict or not, about a first byte and as many bytes as it announces (RFC 7049, 2.1 to 2.3).
 -- They are a title of the header, which is strict if the decoder is (3.9). Or they are none, as `1c`, or as `18 17` for
 -- a strict decoder.
-abbrev pub AnswersTitle : Bool → List ℕ → Option Header → Type 0
-AnswersTitle strict bytes (Some header) = IsTitle bytes header × (IsTrue strict → IsStrictTitle bytes header)
-AnswersTitle strict bytes None = ((byte : ℕ) × IsRefused byte × (bytes ≡ byte ∷ []))
-    ⊎ (IsTrue strict × ((header : Header) × IsTitle bytes header × (IsStrictTitle bytes header → ⊥)))
+abbrev pub AnswersTitle : Spelling → List ℕ → Option Header → Type 0
+AnswersTitle allowed bytes (Some header) = IsTitle bytes header × (allowed ≡ Shortest → IsStrictTitle bytes header)
+AnswersTitle allowed bytes None = ((byte : ℕ) × IsRefused byte × (bytes ≡ byte ∷ []))
+    ⊎ (allowed ≡ Shortest × ((header : Header) × IsTitle bytes header × (IsStrictTitle bytes header → ⊥)))
 
 -- The first byte of a title that was cut: it announces more (RFC 7049, 2.1), as `19` does.
 abbrev pub IsFirstByte : List ℕ → Type 0
@@ -51,9 +53,9 @@ IsFirstByte bytes = (byte : ℕ) × (bytes ≡ byte ∷ []) × (0 < affix_len (b
 
 -- The bytes that were read of a title if the read stopped with this error: all of a refused title, or nothing, or its
 -- first byte. For `Syntax` they can be `1c`, and for another error `19`.
-abbrev pub IsTitleRow : {E : Type 0} → Bool → Error E → List ℕ → Type 0
-IsTitleRow strict (e.Syntax at) bytes = AnswersTitle strict bytes None
-IsTitleRow strict error bytes = (bytes ≡ []) ⊎ IsFirstByte bytes
+abbrev pub IsTitleRow : {E : Type 0} → Spelling → Error E → List ℕ → Type 0
+IsTitleRow allowed (e.Syntax at) bytes = AnswersTitle allowed bytes None
+IsTitleRow allowed error bytes = (bytes ≡ []) ⊎ IsFirstByte bytes
 
 -- How many bytes are left after those of a row at fault, if the bytes end too early. After no byte they are fewer than
 -- a row has. After a first byte they are fewer than it announces (RFC 7049, 2.1): after `19` at most one. After the
@@ -69,9 +71,9 @@ LeavesBehind (e.Io fault) bytes left = Leaves bytes left
 LeavesBehind error bytes left = Unit {0}
 
 -- No header waits, and the decoder is as strict: for `true` it refuses `18 01`, and for `false` it takes it.
-pub record IsInMode {R : Type 0} (strict : Bool) (decoder : Decoder R) : Type 0 where
+pub record IsInMode {R : Type 0} (allowed : Spelling) (decoder : Decoder R) : Type 0 where
   pub none_waits : decoder.waiting ≡ None
-  pub mode : strict_of decoder ≡ strict
+  pub mode : spelling_of decoder ≡ allowed
 
 -- A read was refused, since a header waits. Only the count of refusals changed, as from 0 to 1.
 pub record RefusesRead {R : Type 0} (old new : Decoder R) : Type 0 where

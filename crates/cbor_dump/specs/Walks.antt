@@ -1,6 +1,7 @@
 -- The tags, arrays and maps that a walk keeps, which are not closed, and the items that are due within each.
 use Rattle.std.specs.Prelude.{◌≡◌, ℕ, zero, suc, ◌+◌, Bool, true, false, List, [], ◌∷◌, ◌++◌, length, slice_index_or}
 use Rattle.std.specs.Prelude.{Option, Some, None}
+use Rattle.ciborium_ll_grammar.specs.declared.spelling.Spelling.{Spelling}
 use Rattle.ciborium_ll.specs.Types.Header.{Header}
 use Rattle.ciborium_ll.specs.Types.Header.TheVariants as h
 use Rattle.ciborium_ll.specs.Items.{IsItem}
@@ -68,23 +69,23 @@ pub record KeepsNests (depth : ℕ) (walk : Walk) (nests : List Nest) : Type 0 w
 
 -- After the bytes, which have `whole` whole items, an item is due within the nests that the walk keeps. All stand in
 -- any spelling, or all in the shortest one. After `01 82` one item is whole, and the walk keeps one nest.
-pub record IsDue (strict : Bool) (depth whole : ℕ) (walk : Walk) (bytes : List ℕ) : Type 0 where
+pub record IsDue (allowed : Spelling) (depth whole : ℕ) (walk : Walk) (bytes : List ℕ) : Type 0 where
   pub nests : List Nest
-  pub within : StandsBehind strict depth whole nests bytes
+  pub within : StandsBehind allowed depth whole nests bytes
   pub keeps : KeepsNests depth walk nests
   pub keyed : IsKeyKept depth nests bytes walk.key
 
 -- The bytes end with an item that was due within the nests that the walk keeps, and the key names it. In `82 01` it is
 -- `01`, within one nest.
-pub record IsBehindItem (strict : Bool) (depth whole : ℕ) (walk : Walk) (key : Key) (bytes : List ℕ) : Type 0 where
+pub record IsBehindItem (allowed : Spelling) (depth whole : ℕ) (walk : Walk) (key : Key) (bytes : List ℕ) : Type 0 where
   pub before : List ℕ
   pub item : List ℕ
   pub levels : ℕ
   pub nests : List Nest
-  pub within : StandsBehind strict depth whole nests before
+  pub within : StandsBehind allowed depth whole nests before
   pub keeps : KeepsNests depth walk nests
   pub left : length nests + levels ≡ depth
-  pub is_item : IsItem strict levels item
+  pub is_item : IsItem allowed levels item
   pub is : bytes ≡ before ++ item
   pub names : NamesItem item key
 
@@ -96,31 +97,31 @@ whole_behind whole (suc used) = whole
 
 -- After the bytes an item is due: after an item that has ended, or within an item that was begun. After `82 01` it is
 -- due within the array, and after `82 01 02` outside of it.
-abbrev pub IsDueBehind : Bool → ℕ → ℕ → Walk → List ℕ → Type 0
-IsDueBehind strict depth whole walk bytes = IsDue strict depth (whole_behind whole walk.used) walk bytes
+abbrev pub IsDueBehind : Spelling → ℕ → ℕ → Walk → List ℕ → Type 0
+IsDueBehind allowed depth whole walk bytes = IsDue allowed depth (whole_behind whole walk.used) walk bytes
 
 -- After the bytes an item is due within as many nests as there may be. After `81` that is so to the depth 1.
-pub record IsDeepest (strict : Bool) (depth whole : ℕ) (bytes : List ℕ) : Type 0 where
+pub record IsDeepest (allowed : Spelling) (depth whole : ℕ) (bytes : List ℕ) : Type 0 where
   pub nests : List Nest
-  pub within : StandsBehind strict depth whole nests bytes
+  pub within : StandsBehind allowed depth whole nests bytes
   pub full : length nests ≡ depth
 
 -- The effect of a nest's title after the bytes: `80` is an item, and `81` opens a level.
-abbrev pub Enters : Bool → ℕ → ℕ → Entered → Walk → List ℕ → List ℕ → Type 0
-Enters strict depth whole e.Deep walk before title = IsDeepest strict depth whole before
-Enters strict depth whole e.Empty walk before title = IsBehindItem strict depth whole walk k.Other (before ++ title)
-Enters strict depth whole e.Within walk before title = IsDueBehind strict depth whole walk (before ++ title)
+abbrev pub Enters : Spelling → ℕ → ℕ → Entered → Walk → List ℕ → List ℕ → Type 0
+Enters allowed depth whole e.Deep walk before title = IsDeepest allowed depth whole before
+Enters allowed depth whole e.Empty walk before title = IsBehindItem allowed depth whole walk k.Other (before ++ title)
+Enters allowed depth whole e.Within walk before title = IsDueBehind allowed depth whole walk (before ++ title)
 
 -- The effect of a break after the bytes, and its level. After `9f 01` it closes the array.
-pub record Breaks (strict : Bool) (depth whole : ℕ) (closed : Bool) (walk : Walk) (before : List ℕ) : Type 0 where
+pub record Breaks (allowed : Spelling) (depth whole : ℕ) (closed : Bool) (walk : Walk) (before : List ℕ) : Type 0 where
   pub nests : List Nest
-  pub within : StandsBehind strict depth whole nests before
+  pub within : StandsBehind allowed depth whole nests before
   pub level : walk.used ≡ title_level h.Break nests 0
   pub may : closes_one nests 0 ≡ closed
-  pub behind : closed ≡ true → IsBehindItem strict depth whole walk k.Other (before ++ 0xff ∷ [])
+  pub behind : closed ≡ true → IsBehindItem allowed depth whole walk k.Other (before ++ 0xff ∷ [])
 
 -- The effect of the end of an item, which the key names: its level goes on, or ends too. In `82 01 02` the array goes on
 -- after `01`, and ends after `02`.
-abbrev pub Ends : Bool → ℕ → ℕ → Bool → Walk → List ℕ → Type 0
-Ends strict depth whole true walk bytes = IsBehindItem strict depth whole walk k.Other bytes
-Ends strict depth whole false walk bytes = IsDueBehind strict depth whole walk bytes
+abbrev pub Ends : Spelling → ℕ → ℕ → Bool → Walk → List ℕ → Type 0
+Ends allowed depth whole true walk bytes = IsBehindItem allowed depth whole walk k.Other bytes
+Ends allowed depth whole false walk bytes = IsDueBehind allowed depth whole walk bytes

@@ -1,7 +1,7 @@
 //! Skips a number of the items of a sequence (RFC 8742).
 
 ghost use Rattle.std.specs.Prelude.{◌≡◌, ◌≤◌, ◌↔◌, ℕ, List, length, IsOk};
-ghost use Rattle.ciborium_ll.specs.Decoding.{MovesOn, strict_of};
+ghost use Rattle.ciborium_ll.specs.Decoding.{MovesOn, spelling_of};
 ghost use Rattle.cbor_skip.specs.Skipping.{SkipsCounted};
 ghost use Rattle.cbor_skip.specs.SkippingTold.{IsReadyToSkip};
 ghost use Rattle.cbor_dump.specs.Counted.{BeginsWithItems, SkipsItemsTold};
@@ -32,7 +32,7 @@ pub fn skip_items<R: Read>(
     requires shallow { depth ≤ MOST_LEVELS }
     requires room { LEAST_BUFFER ≤ length buffer.old }
     ensures exactly { (due : List ℕ) → IsReadyToSkip R.Read (length buffer.old) decoder.old due
-        → (IsOk result ↔ BeginsWithItems (strict_of decoder.old) depth count due) }
+        → (IsOk result ↔ BeginsWithItems (spelling_of decoder.old) depth count due) }
     ensures told { (due : List ℕ) → IsReadyToSkip R.Read (length buffer.old) decoder.old due
         → SkipsItemsTold R.Read count depth due decoder.old result decoder.new }
     ensures skipped { SkipsCounted R.Read count depth (length buffer.old) decoder.old result decoder.new }

@@ -3,9 +3,8 @@
 ghost use Rattle.std.specs.Prelude.{◌≡◌, ℕ, ◌+◌, ◌-◌, ◌<◌, ◌≤◌, ◌↔◌, List, [], ◌∷◌, ◌++◌, length, Bool, Err, IfErr};
 ghost use Rattle.std.specs.Prelude.{IsOk};
 ghost use Rattle.ciborium_ll.specs.Items.{IsTakenTitle};
-ghost use Rattle.ciborium_ll.specs.Spellings.{is_shortest};
 ghost use Rattle.ciborium_ll.specs.Title.{IsTitle, title_len};
-ghost use Rattle.ciborium_ll.specs.Decoding.{offset_of, strict_of, IsWaiting};
+ghost use Rattle.ciborium_ll.specs.Decoding.{offset_of, spelling_of, IsWaiting};
 ghost use Rattle.cbor_skip.specs.Due.{IsNest};
 ghost use Rattle.cbor_skip.specs.SkippingTold.{IsReadyToSkip};
 ghost use Rattle.cbor_dump.specs.Checking.{AnswersTold, ReadsAsCheck};
@@ -23,6 +22,7 @@ ghost use Rattle.cbor_dump.specs.Keys.{body_bytes};
 ghost use Rattle.cbor_dump.specs.StringRows.{ShowsKept, kind_of};
 ghost use Rattle.cbor_dump.specs.TitleRows.{DrawsTitle, ShowsAll, ShowsTitle};
 ghost use Rattle.cbor_dump.specs.Walks.{IsDue, IsItemAlone};
+ghost use Rattle.ciborium_ll_grammar.specs.declared.spelling.Spelling.{Spelling};
 ghost use Rattle.ciborium_ll_grammar.specs.declared.limits.TheConstants.{MOST_LEVELS};
 
 use crate::key::{Key, KeyBody};
@@ -103,18 +103,18 @@ pub fn dump<R: Read, S: Rows>(
 where
     R::Error: Drop,
     requires { depth ≤ MOST_LEVELS }
-    ensures exactly { (due : List ℕ) → IsInMode (is_shortest spelling) decoder.old
+    ensures exactly { (due : List ℕ) → IsInMode spelling decoder.old
         → IsReadyToSkip R.Read most_bytes decoder.old due → AreRowsTaken result
-        → (IsOk result ↔ IsSequence (strict_of decoder.old) depth due) }
+        → (IsOk result ↔ IsSequence (spelling_of decoder.old) depth due) }
     ensures refused { IsRefused result → ShowsRefused R.Read depth (offset_of decoder.old) (S.drawn rows.old)
         (S.drawn rows.new) [] decoder.old decoder.new }
-    ensures told { (due : List ℕ) → IsInMode (is_shortest spelling) decoder.old
+    ensures told { (due : List ℕ) → IsInMode spelling decoder.old
         → IsReadyToSkip R.Read most_bytes decoder.old due → AreRowsTaken result
         → AnswersTold R.Read depth due decoder.old result decoder.new }
     ensures shows { AreRowsTaken result
-        → ShowsAll R.Read (is_shortest spelling) depth (S.drawn rows.old) (S.drawn rows.new) result decoder.old
+        → ShowsAll R.Read spelling depth (S.drawn rows.old) (S.drawn rows.new) result decoder.old
         decoder.new }
-    ensures reads { IsInMode (is_shortest spelling) decoder.old → AreRowsTaken result
+    ensures reads { IsInMode spelling decoder.old → AreRowsTaken result
         → ReadsAsCheck R.Read depth decoder.old result decoder.new }
     ensures waits { IsWaiting decoder.old → AnswersWaiting rows.old decoder.old result rows.new decoder.new }
     ensures moves { LeavesDecoder R.Read result decoder.old decoder.new }
@@ -217,14 +217,14 @@ fn title<R: Read, S: Rows>(
 where
     R::Error: Drop,
     requires behind { walk.old.used < offset_of decoder.old }
-    ensures shows { (depth whole start : ℕ) (before : List ℕ) → IsDue (is_shortest spelling) depth whole walk.old before
-        → IsTitle (taken_bytes taken.now) header → IsTakenTitle (is_shortest spelling) (taken_bytes taken.now) header
+    ensures shows { (depth whole start : ℕ) (before : List ℕ) → IsDue spelling depth whole walk.old before
+        → IsTitle (taken_bytes taken.now) header → IsTakenTitle spelling (taken_bytes taken.now) header
         → place ≡ start + length before
         → offset_of decoder.old ≡ place + length (taken_bytes taken.now) → AreRowsTaken result
         → ShowsTitle R.Read depth whole start (S.drawn rows.old) (S.drawn rows.new) before (taken_bytes taken.now)
-        header walk.new (is_shortest spelling) place result decoder.old decoder.new }
+        header walk.new spelling place result decoder.old decoder.new }
     ensures refused { (depth whole start : ℕ) (before : List ℕ)
-        → IsDue (is_shortest spelling) depth whole walk.old before → IsTitle (taken_bytes taken.now) header
+        → IsDue spelling depth whole walk.old before → IsTitle (taken_bytes taken.now) header
         → place ≡ start + length before
         → offset_of decoder.old ≡ place + length (taken_bytes taken.now) → IsRefused result
         → ShowsBehindRefused R.Read depth start (S.drawn rows.old) (S.drawn rows.new) before (taken_bytes taken.now)
@@ -264,13 +264,13 @@ fn value<E, S: Rows>(
     rows: &mut S,
 ) -> Result<(), DumpError<E, S::Error>>
     requires value { IsItemAlone header }
-    ensures draws { (strict : Bool) (depth whole start : ℕ) (before : List ℕ)
-        → IsDue strict depth whole walk.old before → IsTitle (taken_bytes taken.now) header
-        → IsTakenTitle strict (taken_bytes taken.now) header → place ≡ start + length before → AreRowsTaken result
-        → DrawsTitle strict depth whole start (S.drawn rows.old) (S.drawn rows.new) before (taken_bytes taken.now)
+    ensures draws { (allowed : Spelling) (depth whole start : ℕ) (before : List ℕ)
+        → IsDue allowed depth whole walk.old before → IsTitle (taken_bytes taken.now) header
+        → IsTakenTitle allowed (taken_bytes taken.now) header → place ≡ start + length before → AreRowsTaken result
+        → DrawsTitle allowed depth whole start (S.drawn rows.old) (S.drawn rows.new) before (taken_bytes taken.now)
         header walk.new place result }
-    ensures refused { (strict : Bool) (depth whole start : ℕ) (before : List ℕ)
-        → IsDue strict depth whole walk.old before → IsTitle (taken_bytes taken.now) header
+    ensures refused { (allowed : Spelling) (depth whole start : ℕ) (before : List ℕ)
+        → IsDue allowed depth whole walk.old before → IsTitle (taken_bytes taken.now) header
         → place ≡ start + length before → IsRefused result
         → LinesRefused depth start (S.drawn rows.old) (S.drawn rows.new) before (taken_bytes taken.now) }
     ensures alone { IfErr result IsAlone }
@@ -289,13 +289,13 @@ fn break_title<E, S: Rows>(
     place: usize,
     rows: &mut S,
 ) -> Result<(), DumpError<E, S::Error>>
-    ensures draws { (strict : Bool) (depth whole start : ℕ) (before : List ℕ)
-        → IsDue strict depth whole walk.old before → IsTitle (taken_bytes taken.now) Header.Break
+    ensures draws { (allowed : Spelling) (depth whole start : ℕ) (before : List ℕ)
+        → IsDue allowed depth whole walk.old before → IsTitle (taken_bytes taken.now) Header.Break
         → place ≡ start + length before → AreRowsTaken result
-        → DrawsTitle strict depth whole start (S.drawn rows.old) (S.drawn rows.new) before (taken_bytes taken.now)
+        → DrawsTitle allowed depth whole start (S.drawn rows.old) (S.drawn rows.new) before (taken_bytes taken.now)
         Header.Break walk.new place result }
-    ensures refused { (strict : Bool) (depth whole start : ℕ) (before : List ℕ)
-        → IsDue strict depth whole walk.old before → IsTitle (taken_bytes taken.now) Header.Break
+    ensures refused { (allowed : Spelling) (depth whole start : ℕ) (before : List ℕ)
+        → IsDue allowed depth whole walk.old before → IsTitle (taken_bytes taken.now) Header.Break
         → place ≡ start + length before → IsRefused result
         → LinesRefused depth start (S.drawn rows.old) (S.drawn rows.new) before (taken_bytes taken.now) }
     ensures alone { IfErr result IsAlone }
@@ -320,13 +320,13 @@ fn nest<E, S: Rows>(
     rows: &mut S,
 ) -> Result<(), DumpError<E, S::Error>>
     requires nest { IsNest header }
-    ensures draws { (strict : Bool) (depth whole start : ℕ) (before : List ℕ)
-        → IsDue strict depth whole walk.old before → IsTitle (taken_bytes taken.now) header
-        → IsTakenTitle strict (taken_bytes taken.now) header → place ≡ start + length before → AreRowsTaken result
-        → DrawsTitle strict depth whole start (S.drawn rows.old) (S.drawn rows.new) before (taken_bytes taken.now)
+    ensures draws { (allowed : Spelling) (depth whole start : ℕ) (before : List ℕ)
+        → IsDue allowed depth whole walk.old before → IsTitle (taken_bytes taken.now) header
+        → IsTakenTitle allowed (taken_bytes taken.now) header → place ≡ start + length before → AreRowsTaken result
+        → DrawsTitle allowed depth whole start (S.drawn rows.old) (S.drawn rows.new) before (taken_bytes taken.now)
         header walk.new place result }
-    ensures refused { (strict : Bool) (depth whole start : ℕ) (before : List ℕ)
-        → IsDue strict depth whole walk.old before → IsTitle (taken_bytes taken.now) header
+    ensures refused { (allowed : Spelling) (depth whole start : ℕ) (before : List ℕ)
+        → IsDue allowed depth whole walk.old before → IsTitle (taken_bytes taken.now) header
         → place ≡ start + length before → IsRefused result
         → LinesRefused depth start (S.drawn rows.old) (S.drawn rows.new) before (taken_bytes taken.now) }
     ensures alone { IfErr result IsAlone }
@@ -358,15 +358,15 @@ fn string<R: Read, S: Rows>(
 where
     R::Error: Drop,
     requires behind { walk.old.used < offset_of decoder.old }
-    ensures shows { (depth whole start : ℕ) (before : List ℕ) → IsDue (is_shortest spelling) depth whole walk.old before
+    ensures shows { (depth whole start : ℕ) (before : List ℕ) → IsDue spelling depth whole walk.old before
         → IsTitle (taken_bytes taken.now) (kind_header (kind_of kind) len)
-        → IsTakenTitle (is_shortest spelling) (taken_bytes taken.now) (kind_header (kind_of kind) len)
+        → IsTakenTitle spelling (taken_bytes taken.now) (kind_header (kind_of kind) len)
         → place ≡ start + length before
         → offset_of decoder.old ≡ place + length (taken_bytes taken.now) → AreRowsTaken result
         → ShowsTitle R.Read depth whole start (S.drawn rows.old) (S.drawn rows.new) before (taken_bytes taken.now)
-        (kind_header (kind_of kind) len) walk.new (is_shortest spelling) place result decoder.old decoder.new }
+        (kind_header (kind_of kind) len) walk.new spelling place result decoder.old decoder.new }
     ensures refused { (depth whole start : ℕ) (before : List ℕ)
-        → IsDue (is_shortest spelling) depth whole walk.old before
+        → IsDue spelling depth whole walk.old before
         → IsTitle (taken_bytes taken.now) (kind_header (kind_of kind) len)
         → place ≡ start + length before
         → offset_of decoder.old ≡ place + length (taken_bytes taken.now) → IsRefused result
@@ -404,7 +404,8 @@ where
         → IsTitle title (kind_header (kind_of kind) len) → level ≡ length nests
         → offset_of decoder.old ≡ start + length (items ++ title) → AreRowsTaken result
         → ShowsKept R.Read depth start (S.drawn rows.old) (S.drawn rows.new) (items ++ title) (kind_of kind) len
-        (is_shortest spelling) (offset_of decoder.old - title_len (kind_header (kind_of kind) len)) result kept.new decoder.old decoder.new }
+        spelling (offset_of decoder.old - title_len (kind_header (kind_of kind) len)) result kept.new decoder.old
+        decoder.new }
     ensures refused { (depth start : ℕ) (nests : List Nest) (items title : List ℕ) → StandsWithin depth nests items
         → IsTitle title (kind_header (kind_of kind) len) → level ≡ length nests
         → offset_of decoder.old ≡ start + length (items ++ title) → IsRefused result

@@ -4,7 +4,6 @@ ghost use Rattle.std.specs.Prelude.{◌≡◌, ◌≤◌, ◌+◌, ◌^◌, ℕ,
 ghost use Rattle.cbor_dump.specs.declared.embedded.TheConstants.{SPARE};
 ghost use Rattle.ciborium_ll.specs.Decoding.{offset_of};
 ghost use Rattle.ciborium_ll.specs.Items.{IsItem};
-ghost use Rattle.ciborium_ll.specs.Spellings.{is_shortest};
 ghost use Rattle.cbor_skip.specs.SkippingTold.{IsReadyToSkip};
 ghost use Rattle.cbor_dump.specs.Bodies.{DrawsBody, IsShownAs};
 ghost use Rattle.cbor_dump.specs.Dumps.{Lines};
@@ -58,7 +57,7 @@ pub fn dump_body<S: Deepen>(
     requires shallow { depth ≤ MOST_LEVELS }
     ensures shown { IfOk result (λ is. is ≡ true → DrawsBody S.base S.drawn depth offset levels body.now rows.old
         rows.new) }
-    ensures item { IfOk result (λ is. IsShownAs (is_shortest spelling) depth offset body.now is) }
+    ensures item { IfOk result (λ is. IsShownAs spelling depth offset body.now is) }
     ensures untouched { IfOk result (λ is. is ≡ false → rows.new ≡ rows.old) }
 {
     if !has_offsets(offset, body.len()) || !is_one_item(body, depth, spelling) {
@@ -91,9 +90,9 @@ fn dump_item<R: Read, S: Rows>(
 where
     R::Error: Drop,
     requires shallow { depth ≤ MOST_LEVELS }
-    ensures { (due : List ℕ) → IsInMode (is_shortest spelling) decoder.old
+    ensures { (due : List ℕ) → IsInMode spelling decoder.old
         → IsReadyToSkip R.Read most_bytes decoder.old due
-        → IsItem (is_shortest spelling) depth due → OnOk result
+        → IsItem spelling depth due → OnOk result
         (Lines depth (offset_of decoder.old) (S.drawn rows.old) (S.drawn rows.new) [] due Meant) }
 {
     match dump(decoder, depth, spelling, rows) {

@@ -1,8 +1,7 @@
 //! Reads the meaning of a row's bytes: a title, or a part of a text.
 
 ghost use Rattle.std.specs.Prelude.{◌≡◌, ◌%◌, ℕ, List, ◌∷◌, length, None, Some};
-ghost use Rattle.ciborium_ll.specs.Decoding.{IsSteady, offset_of, strict_of, view, waiting_of};
-ghost use Rattle.ciborium_ll.specs.Spellings.{is_shortest};
+ghost use Rattle.ciborium_ll.specs.Decoding.{IsSteady, offset_of, spelling_of, view, waiting_of};
 ghost use Rattle.ciborium_ll.specs.Title.{affix_len};
 ghost use Rattle.ciborium_ll_text.specs.States.{after};
 ghost use Rattle.ciborium_ll_text.specs.declared.state.State.TheVariants.{Between};
@@ -16,7 +15,7 @@ use ciborium_ll_text::state::{State, text_front};
 /// Returns the header of a title, which has the first byte and as many bytes as that announces.
 pub(crate) fn title_header(title: &[u8], spelling: Spelling) -> Option<Header>
     ensures { (first : ℕ) (affix : List ℕ) → title.now ≡ first ∷ affix → length affix ≡ affix_len (first % 32)
-        → AnswersTitle (is_shortest spelling) title.now result }
+        → AnswersTitle spelling title.now result }
 {
     whole_header(&mut Decoder::with_spelling(SliceReader::new(title), spelling, 0))
 }
@@ -27,7 +26,7 @@ where
     R::Error: Drop,
     ensures { (first : ℕ) (affix bytes : List ℕ) → IsSteady R.Read decoder.old → offset_of decoder.old ≡ 0
         → waiting_of decoder.old ≡ None → view R.Read decoder.old ≡ Some bytes → bytes ≡ first ∷ affix
-        → length affix ≡ affix_len (first % 32) → AnswersTitle (strict_of decoder.old) bytes result }
+        → length affix ≡ affix_len (first % 32) → AnswersTitle (spelling_of decoder.old) bytes result }
 {
     decoder.pull().ok()
 }

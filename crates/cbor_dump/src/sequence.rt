@@ -1,7 +1,7 @@
 //! Reads a sequence of items (RFC 8742) to its end.
 
 ghost use Rattle.std.specs.Prelude.{◌≡◌, ◌≤◌, ◌↔◌, ℕ, List, length, IsOk, IfOk};
-ghost use Rattle.ciborium_ll.specs.Decoding.{MovesOn, failures_of, strict_of};
+ghost use Rattle.ciborium_ll.specs.Decoding.{MovesOn, failures_of, spelling_of};
 ghost use Rattle.ciborium_ll.specs.Items.{AreItems};
 ghost use Rattle.cbor_skip.specs.SkippingTold.{IsReadyToSkip};
 ghost use Rattle.cbor_dump.specs.Sequences.{ChecksItems, ChecksTold, CountsCheck, EndsSequence, IsSequence};
@@ -58,9 +58,9 @@ pub fn check<R: Read>(
     requires shallow { depth ≤ MOST_LEVELS }
     requires room { LEAST_BUFFER ≤ length buffer.old }
     ensures exactly { (due : List ℕ) → IsReadyToSkip R.Read (length buffer.old) decoder.old due
-        → (IsOk result ↔ IsSequence (strict_of decoder.old) depth due) }
+        → (IsOk result ↔ IsSequence (spelling_of decoder.old) depth due) }
     ensures number { (due : List ℕ) (count : ℕ) → IsReadyToSkip R.Read (length buffer.old) decoder.old due
-        → AreItems (strict_of decoder.old) depth count due → IfOk result (λ sequence. sequence.items ≡ count) }
+        → AreItems (spelling_of decoder.old) depth count due → IfOk result (λ sequence. sequence.items ≡ count) }
     ensures told { (due : List ℕ) → IsReadyToSkip R.Read (length buffer.old) decoder.old due
         → ChecksTold R.Read depth due decoder.old result decoder.new }
     ensures checks { ChecksItems R.Read depth (length buffer.old) decoder.old result decoder.new }

@@ -1,7 +1,7 @@
 //! Reads one item that nothing follows.
 
 ghost use Rattle.std.specs.Prelude.{◌≡◌, ◌≤◌, ◌↔◌, ℕ, List, length, IsOk};
-ghost use Rattle.ciborium_ll.specs.Decoding.{MovesOn, failures_of, strict_of};
+ghost use Rattle.ciborium_ll.specs.Decoding.{MovesOn, failures_of, spelling_of};
 ghost use Rattle.ciborium_ll.specs.Items.{IsItem};
 ghost use Rattle.cbor_skip.specs.SkippingTold.{IsReadyToSkip};
 ghost use Rattle.cbor_dump.specs.Singles.{ChecksOne, ChecksOneTold, CountsOne, EndsOne};
@@ -38,7 +38,7 @@ pub fn check_one<R: Read>(
     requires shallow { depth ≤ MOST_LEVELS }
     requires room { LEAST_BUFFER ≤ length buffer.old }
     ensures exactly { (due : List ℕ) → IsReadyToSkip R.Read (length buffer.old) decoder.old due
-        → (IsOk result ↔ IsItem (strict_of decoder.old) depth due) }
+        → (IsOk result ↔ IsItem (spelling_of decoder.old) depth due) }
     ensures told { (due : List ℕ) → IsReadyToSkip R.Read (length buffer.old) decoder.old due
         → ChecksOneTold R.Read depth due decoder.old result decoder.new }
     ensures checks { ChecksOne R.Read depth (length buffer.old) decoder.old result decoder.new }

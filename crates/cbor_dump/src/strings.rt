@@ -2,7 +2,6 @@
 
 ghost use Rattle.std.specs.Prelude.{◌≡◌, ℕ, ◌+◌, ◌<◌, ◌≤◌, Bool, List, [], ◌++◌, length, suc, IfErr, IfOk, IfSome};
 ghost use Rattle.std.specs.Prelude.{None, Some};
-ghost use Rattle.ciborium_ll.specs.Spellings.{is_shortest};
 ghost use Rattle.ciborium_ll.specs.Title.{IsTitle};
 ghost use Rattle.ciborium_ll.specs.Strings.{IsWritable, kind_header};
 ghost use Rattle.ciborium_ll.specs.Decoding.{offset_of, view, waiting_of};
@@ -12,6 +11,7 @@ ghost use Rattle.cbor_dump.specs.Parts.{IsFullPart, IsPartRow, ReadsPart};
 ghost use Rattle.cbor_dump.specs.Takings.{IsSteadyNoneWaiting, Keeps, LeavesBehind, ReadsBy, taken_bytes};
 ghost use Rattle.cbor_dump.specs.Keys.{body_bytes};
 ghost use Rattle.cbor_dump.specs.StringRows.{IsPart, ShowsBehindTitle, ShowsKept, kind_of, meaning_of};
+ghost use Rattle.ciborium_ll_grammar.specs.declared.spelling.Spelling.{Spelling};
 ghost use Rattle.ciborium_ll_grammar.specs.declared.limits.TheConstants.{MOST_LEVELS};
 
 use crate::dump::{DumpError, fault, shown};
@@ -66,12 +66,12 @@ pub(crate) fn body<R: Read, S: Rows>(
 where
     R::Error: Drop,
     requires none { body_bytes kept.old ≡ [] }
-    ensures shows { (depth start opens : ℕ) (nests : List Nest) (outer title : List ℕ) (strict : Bool)
+    ensures shows { (depth start opens : ℕ) (nests : List Nest) (outer title : List ℕ) (allowed : Spelling)
         → TitleDue depth nests opens outer → IsTitle title (kind_header (kind_of kind) (Some len))
         → level ≡ length nests + opens + 1
         → offset_of decoder.old ≡ start + length (outer ++ title) → AreRowsTaken result
         → ShowsKept R.Read depth start (S.drawn rows.old) (S.drawn rows.new) (outer ++ title) (kind_of kind) (Some len)
-        strict place result kept.new decoder.old decoder.new }
+        allowed place result kept.new decoder.old decoder.new }
     ensures rises { offset_of decoder.old ≤ offset_of decoder.new }
     ensures refused { (depth start opens : ℕ) (nests : List Nest) (outer title : List ℕ)
         → TitleDue depth nests opens outer → IsTitle title (kind_header (kind_of kind) (Some len))
@@ -143,7 +143,7 @@ enum Part {
 
 /// Returns the role of a header within a string of indefinite length of this kind.
 fn part_of(header: Header, kind: Kind, spelling: Spelling) -> Part
-    ensures { IsPart (is_shortest spelling) (kind_of kind) header result }
+    ensures { IsPart spelling (kind_of kind) header result }
 {
     let len = match (header, kind) {
         (Header::Break, _) => return Part::Break,
@@ -187,7 +187,7 @@ where
         → IsTitle title (kind_header (kind_of kind) None) → level ≡ length nests
         → offset_of decoder.old ≡ start + length (items ++ title) → AreRowsTaken result
         → ShowsBehindTitle R.Read depth start (S.drawn rows.old) (S.drawn rows.new) (items ++ title) (kind_of kind) None
-        (is_shortest spelling) 0 result decoder.old decoder.new }
+        spelling 0 result decoder.old decoder.new }
     ensures refused { (depth start : ℕ) (nests : List Nest) (items title : List ℕ) → StandsWithin depth nests items
         → IsTitle title (kind_header (kind_of kind) None) → level ≡ length nests
         → offset_of decoder.old ≡ start + length (items ++ title) → IsRefused result

@@ -26,7 +26,6 @@ pub(crate) struct Taken {
 
 impl Taken {
     ghost use Rattle.ciborium_ll.specs.Items.{IsTakenTitle};
-    ghost use Rattle.ciborium_ll.specs.Spellings.{is_shortest};
     ghost use Rattle.ciborium_ll.specs.Title.{IsTitle};
     ghost use Rattle.cbor_dump.specs.Takings.{EndsRow, IsInMode, IsSteadyNoneWaiting, Keeps, PullsRow, ReadsBy, ReadsMore};
     ghost use Rattle.cbor_dump.specs.Takings.{IsTitleRow, LeavesBehind, RefusesRead, taken_bytes};
@@ -124,15 +123,15 @@ impl Taken {
         requires none { taken_bytes self.old ≡ [] }
         ensures keeps { Keeps R.Read (taken_bytes self.old) (taken_bytes self.new) decoder.old decoder.new }
         ensures title { IfOk result (λ header. IsTitle (taken_bytes self.new) header) }
-        ensures taken { IfOk result (λ header. IsTakenTitle (is_shortest spelling) (taken_bytes self.new) header) }
+        ensures taken { IfOk result (λ header. IsTakenTitle spelling (taken_bytes self.new) header) }
         ensures passes { waiting_of decoder.old ≡ None
             → IfOk result (λ _. ReadsPast R.Read decoder.old (taken_bytes self.new) decoder.new) }
-        ensures row { IfErr result (λ error. IsTitleRow (is_shortest spelling) error (taken_bytes self.new)) }
+        ensures row { IfErr result (λ error. IsTitleRow spelling error (taken_bytes self.new)) }
         ensures left { IfErr result (λ error. IsSteadyNoneWaiting R.Read decoder.old
             → IfSome (view R.Read decoder.new) (LeavesBehind error (taken_bytes self.new))) }
         ensures waits { IsWaiting decoder.old → (result ≡ Err Waiting) × (taken_bytes self.new ≡ [])
             × RefusesRead decoder.old decoder.new }
-        ensures pulls { IsInMode (is_shortest spelling) decoder.old → place ≡ offset_of decoder.old
+        ensures pulls { IsInMode spelling decoder.old → place ≡ offset_of decoder.old
             → PullsRow R.Read decoder.old result decoder.new }
         ensures moves { ReadsBy R.Read result decoder.old decoder.new }
     {

@@ -3,6 +3,7 @@
 ghost use Rattle.std.specs.Prelude.{◌≡◌, ◌≤◌, ◌<◌, ◌++◌, [], ℕ, suc, Bool, List, IsTrue};
 ghost use Rattle.ciborium_ll.specs.Types.Header.{Header as AnyHeader};
 ghost use Rattle.cbor_dump.specs.Levels.{IsPlace, index_in};
+ghost use Rattle.ciborium_ll_grammar.specs.declared.spelling.Spelling.{Spelling};
 ghost use Rattle.ciborium_ll_grammar.specs.declared.limits.TheConstants.{MOST_LEVELS};
 
 use crate::key::Key;
@@ -66,7 +67,7 @@ impl Walk {
     /// Makes a walk with no level open, of at most `depth` levels.
     pub(crate) fn new(depth: usize) -> Walk
         requires { depth ≤ MOST_LEVELS }
-        ensures { (strict : Bool) → IsDue strict depth 0 result [] }
+        ensures { (allowed : Spelling) → IsDue allowed depth 0 result [] }
     {
         Walk {
             levels: [Remaining::Items(0); MOST_LEVELS],
@@ -87,7 +88,8 @@ impl Walk {
 
     /// Returns the place of the item that is due.
     pub(crate) fn within(&self) -> Within
-        ensures { (strict : Bool) (depth whole : ℕ) (before : List ℕ) (due : IsDue strict depth whole self.now before)
+        ensures { (allowed : Spelling) (depth whole : ℕ) (before : List ℕ)
+            (due : IsDue allowed depth whole self.now before)
             → IsPlace depth due.nests before result }
     {
         if self.used == 0 {
@@ -105,9 +107,10 @@ impl Walk {
     /// Takes the title of a tag, an array or a map.
     pub(crate) fn enter(&mut self, header: Header) -> Entered
         requires nest { IsNest header }
-        ensures { (strict : Bool) (depth whole : ℕ) (before title : List ℕ) → IsDue strict depth whole self.old before
-            → IsTitle title header → IsTakenTitle strict title header
-            → Enters strict depth whole result self.new before title }
+        ensures { (allowed : Spelling) (depth whole : ℕ) (before title : List ℕ) → IsDue allowed depth whole self.old
+            before
+            → IsTitle title header → IsTakenTitle allowed title header
+            → Enters allowed depth whole result self.new before title }
     {
         if self.used == self.depth {
             return Entered::Deep;
@@ -124,8 +127,8 @@ impl Walk {
 
     /// Takes a break, and returns whether it may stand there. If it may, the call closes the last level.
     pub(crate) fn close(&mut self) -> bool
-        ensures { (strict : Bool) (depth whole : ℕ) (before : List ℕ) → IsDue strict depth whole self.old before
-            → Breaks strict depth whole result self.new before }
+        ensures { (allowed : Spelling) (depth whole : ℕ) (before : List ℕ) → IsDue allowed depth whole self.old before
+            → Breaks allowed depth whole result self.new before }
     {
         if self.used == 0 {
             return false;
@@ -139,8 +142,8 @@ impl Walk {
 
     /// Takes the end of an item, which the key names, and closes each level that ends with it.
     pub(crate) fn item_done(&mut self, key: Key)
-        ensures { (strict : Bool) (depth whole : ℕ) (bytes : List ℕ)
-            → IsBehindItem strict depth whole self.old key bytes → IsDueBehind strict depth whole self.new bytes }
+        ensures { (allowed : Spelling) (depth whole : ℕ) (bytes : List ℕ)
+            → IsBehindItem allowed depth whole self.old key bytes → IsDueBehind allowed depth whole self.new bytes }
     {
         let mut named = key;
         'levels: while self.ends_level(named) {
@@ -150,8 +153,8 @@ impl Walk {
 
     /// Takes the end of an item, and returns whether the last level ends with it. The call then closes that level.
     fn ends_level(&mut self, key: Key) -> bool
-        ensures ends { (strict : Bool) (depth whole : ℕ) (bytes : List ℕ)
-            → IsBehindItem strict depth whole self.old key bytes → Ends strict depth whole result self.new bytes }
+        ensures ends { (allowed : Spelling) (depth whole : ℕ) (bytes : List ℕ)
+            → IsBehindItem allowed depth whole self.old key bytes → Ends allowed depth whole result self.new bytes }
         ensures fewer { IsTrue result → self.new.used < self.old.used }
     {
         if self.used == 0 {

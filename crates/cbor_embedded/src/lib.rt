@@ -4,7 +4,6 @@
 
 ghost use Rattle.std.specs.Prelude.{◌↔◌, ◌≤◌, IsTrue};
 ghost use Rattle.ciborium_ll_grammar.specs.Items.{IsItem};
-ghost use Rattle.ciborium_ll_grammar.specs.Spellings.{is_shortest};
 ghost use Rattle.ciborium_ll_grammar.specs.declared.limits.TheConstants.{MOST_LEVELS};
 
 use cbor_skip::skip_item;
@@ -36,7 +35,7 @@ pub enum Embedded {
 /// Each text is UTF-8. With `Shortest` the item is in its shortest spelling (3.9): `01` is, and `18 01` is not.
 pub fn is_one_item(body: &[u8], depth: usize, spelling: Spelling) -> bool
     requires shallow { depth ≤ MOST_LEVELS }
-    ensures { IsTrue result ↔ IsItem (is_shortest spelling) depth body.now }
+    ensures { IsTrue result ↔ IsItem spelling depth body.now }
 {
     let reader = SliceReader::new(body);
     let mut decoder = Decoder::with_spelling(reader, spelling, 0);

@@ -1,6 +1,8 @@
 -- Titles with marks.
-use Rattle.std.proofs.Common.{◌≡◌, ℕ, Bool, true, false, List, ◌++◌, Some, refl, sym, subst, ap, ◌∙◌, arith}
+use Rattle.std.proofs.Common.{◌≡◌, ℕ, List, ◌++◌, Some, refl, sym, subst, ap, ◌∙◌, arith}
 use Rattle.std.proofs.Common.{append_assoc, None, ◌<◌}
+use Rattle.ciborium_ll_grammar.specs.declared.spelling.Spelling.{Spelling}
+use Rattle.ciborium_ll_grammar.specs.declared.spelling.Spelling.TheVariants.{Any, Shortest}
 use Rattle.ciborium_ll_grammar.specs.declared.hdr.Header.{Header}
 use Rattle.ciborium_ll_grammar.specs.declared.hdr.Minor.{Minor}
 use Rattle.ciborium_ll_grammar.specs.Title.{IsTitle, IsSmallSimple, IsInRange, shortest_title, Major, Size}
@@ -35,29 +37,29 @@ simple_small number less = means_title Other (minors.Small number) (h.Simple num
 pub simple_one : (number : ℕ) → number < 256 → IsTitle (parts_bytes 7 (minors.One number)) (h.Simple number)
 simple_one number less = means_title Other (minors.One number) (h.Simple number) less refl
 
-shortest_taken : (strict : Bool) (header : Header) (bytes : List ℕ) → (IsSmallSimple header → ⊥)
-    → bytes ≡ shortest_title header → IsTakenTitle strict bytes header
-shortest_taken true header bytes meant same = record { shortest = same; meant = meant }
-shortest_taken false header bytes meant same = tt
+shortest_taken : (allowed : Spelling) (header : Header) (bytes : List ℕ) → (IsSmallSimple header → ⊥)
+    → bytes ≡ shortest_title header → IsTakenTitle allowed bytes header
+shortest_taken Shortest header bytes meant same = record { shortest = same; meant = meant }
+shortest_taken Any header bytes meant same = tt
 
 -- The shortest title is taken in each mode.
-pub shortest_head : (strict : Bool) (header : Header) (bytes : List ℕ) → IsMeant header None → IsInRange header
-    → bytes ≡ shortest_title header → IsHead strict header bytes
-shortest_head strict header bytes meant range same = record {
+pub shortest_head : (allowed : Spelling) (header : Header) (bytes : List ℕ) → IsMeant header None → IsInRange header
+    → bytes ≡ shortest_title header → IsHead allowed header bytes
+shortest_head allowed header bytes meant range same = record {
   title = subst (λ (z : List ℕ). IsTitle z header) (sym same) (IsTitle-shortest header range);
-  taken = shortest_taken strict header bytes (λ small. (let some = meant small in grind (arith, some))) same;
+  taken = shortest_taken allowed header bytes (λ small. (let some = meant small in grind (arith, some))) same;
 }
 
 -- A title of any width is taken if the mode is not strict.
-pub loose_head : (strict : Bool) (header : Header) (bytes : List ℕ) → strict ≡ false → IsTitle bytes header
-    → IsHead strict header bytes
-loose_head strict header bytes loose title = rw loose (record { title = title; taken = tt })
+pub loose_head : (allowed : Spelling) (header : Header) (bytes : List ℕ) → allowed ≡ Any → IsTitle bytes header
+    → IsHead allowed header bytes
+loose_head allowed header bytes loose title = rw loose (record { title = title; taken = tt })
 
 -- Two calls add a title and a body.
-pub body_added : (strict : Bool) (header : Header) (title body before within after : List ℕ)
-    → IsHead strict header title → within ≡ before ++ title → after ≡ within ++ body
-    → Adds (HasBody strict header body) before after
-body_added strict header title body before within after head first second = record {
+pub body_added : (allowed : Spelling) (header : Header) (title body before within after : List ℕ)
+    → IsHead allowed header title → within ≡ before ++ title → after ≡ within ++ body
+    → Adds (HasBody allowed header body) before after
+body_added allowed header title body before within after head first second = record {
   added = title ++ body;
   parts = second ∙ ap (λ (z : List ℕ). z ++ body) first ∙ append_assoc before title body;
   is = record { title = title; head = head; parts = refl };

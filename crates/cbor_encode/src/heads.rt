@@ -3,7 +3,6 @@
 ghost use Rattle.std.specs.Prelude.{◌≡◌, ◌≤◌, ◌++◌, ℕ, Some, IfErr, IfOk, IfSome, OnOk};
 ghost use Rattle.ciborium_ll_grammar.specs.Title.{IsTitle};
 ghost use Rattle.ciborium_ll_grammar.specs.Items.{Completes, IsItem};
-ghost use Rattle.ciborium_ll_grammar.specs.Spellings.{is_shortest};
 ghost use Rattle.ciborium_ll_grammar.specs.Parts.{IsMinor, IsParts, minor_number, title_bytes};
 ghost use Rattle.cbor_encode.specs.Adding.{Adds, HasBody, HasNumber, IsHead};
 ghost use Rattle.cbor_encode.specs.Left.{IsWithin, left_of};
@@ -172,7 +171,7 @@ fn put_title(out: &mut Vec<u8>, title: Title, left: usize) -> Result<(), Stop>
 fn title_of(header: Header, mark: Option<Mark>, spelling: Spelling) -> Result<Title, Expected>
     requires meant { IsMeant header mark }
     ensures parts { IfOk result IsParts }
-    ensures head { IfOk result (λ title. IsHead (is_shortest spelling) header (title_bytes title)) }
+    ensures head { IfOk result (λ title. IsHead spelling header (title_bytes title)) }
 {
     let Some(mark) = mark else {
         return Ok(shortest(header));
@@ -198,7 +197,7 @@ pub(crate) fn put_chunk(
     left: usize,
 ) -> Result<(), Stop>
     requires meant { IsMeant header mark }
-    ensures wrote { OnOk result (Adds (HasBody (is_shortest spelling) header body.now) out.old.items out.new.items) }
+    ensures wrote { OnOk result (Adds (HasBody spelling header body.now) out.old.items out.new.items) }
     ensures place { IfErr result (IsWithin left) }
 {
     match title_of(header, mark, spelling) {
@@ -218,8 +217,8 @@ pub(crate) fn put_whole(
     left: usize,
 ) -> Result<(), Stop>
     requires meant { IsMeant header mark }
-    ensures wrote { OnOk result ((depth : ℕ) → Completes (is_shortest spelling) depth header body.now
-        → Adds (IsItem (is_shortest spelling) depth) out.old.items out.new.items) }
+    ensures wrote { OnOk result ((depth : ℕ) → Completes spelling depth header body.now
+        → Adds (IsItem spelling depth) out.old.items out.new.items) }
     ensures place { IfErr result (IsWithin left) }
 {
     put_chunk(out, header, mark, body, spelling, left)

@@ -2,7 +2,6 @@
 
 ghost use Rattle.std.specs.Prelude.{◌<◌, ◌≤◌, ◌*◌, ℕ, IfErr, IfOk, OnOk, length};
 ghost use Rattle.ciborium_ll_grammar.specs.Items.{AreItems, IsItem};
-ghost use Rattle.ciborium_ll_grammar.specs.Spellings.{is_shortest};
 ghost use Rattle.cbor_encode.specs.Adding.{Adds};
 ghost use Rattle.cbor_encode.specs.Left.{IsWithin, left_of};
 ghost use Rattle.cbor_encode.specs.Scalars.{IsScalar};
@@ -40,7 +39,7 @@ pub(crate) fn put_item(
     depth: usize,
     rules: Rules,
 ) -> Result<(), Stop>
-    ensures wrote { OnOk result (Adds (IsItem (is_shortest rules.spelling) depth) out.old.items out.new.items) }
+    ensures wrote { OnOk result (Adds (IsItem rules.spelling depth) out.old.items out.new.items) }
     ensures shorter { OnOk result (left_of cursor.new < left_of cursor.old) }
     ensures within { left_of cursor.new ≤ left_of cursor.old }
     ensures place { IfErr result (IsWithin (left_of cursor.old)) }
@@ -57,7 +56,7 @@ pub(crate) fn put_item(
 
 /// Encodes a string or a named value.
 fn put_plain(cursor: &mut Cursor<'_>, out: &mut Vec<u8>, rules: Rules) -> Result<(), Stop>
-    ensures wrote { OnOk result ((depth : ℕ) → Adds (IsItem (is_shortest rules.spelling) depth) out.old.items
+    ensures wrote { OnOk result ((depth : ℕ) → Adds (IsItem rules.spelling depth) out.old.items
         out.new.items) }
     ensures shorter { OnOk result (left_of cursor.new < left_of cursor.old) }
     ensures within { left_of cursor.new ≤ left_of cursor.old }
@@ -74,7 +73,7 @@ fn put_plain(cursor: &mut Cursor<'_>, out: &mut Vec<u8>, rules: Rules) -> Result
 /// Adds an integer, a float or a simple value. From it on, `left` bytes of the text are left.
 fn put_scalar(out: &mut Vec<u8>, number: Number, rules: Rules, left: usize) -> Result<(), Stop>
     requires scalar { IsScalar number.header number.mark }
-    ensures wrote { OnOk result ((depth : ℕ) → Adds (IsItem (is_shortest rules.spelling) depth) out.old.items
+    ensures wrote { OnOk result ((depth : ℕ) → Adds (IsItem rules.spelling depth) out.old.items
         out.new.items) }
     ensures place { IfErr result (IsWithin left) }
 {
@@ -89,7 +88,7 @@ fn put_number(
     depth: usize,
     rules: Rules,
 ) -> Result<(), Stop>
-    ensures wrote { OnOk result (Adds (IsItem (is_shortest rules.spelling) depth) out.old.items out.new.items) }
+    ensures wrote { OnOk result (Adds (IsItem rules.spelling depth) out.old.items out.new.items) }
     ensures shorter { OnOk result (left_of cursor.new < left_of cursor.old) }
     ensures within { left_of cursor.new ≤ left_of cursor.old }
     ensures place { IfErr result (IsWithin (left_of cursor.old)) }
@@ -122,7 +121,7 @@ fn put_number(
 /// Encodes the item of a tag, up to the closing parenthesis.
 #[cycle(items)]
 fn read_tagged(cursor: &mut Cursor<'_>, depth: usize, rules: Rules) -> Result<Vec<u8>, Stop>
-    ensures item { IfOk result (λ bytes. IsItem (is_shortest rules.spelling) depth bytes.items) }
+    ensures item { IfOk result (λ bytes. IsItem rules.spelling depth bytes.items) }
     ensures within { left_of cursor.new ≤ left_of cursor.old }
     ensures place { IfErr result (IsWithin (left_of cursor.old)) }
 {
@@ -142,7 +141,7 @@ fn put_array(
     depth: usize,
     rules: Rules,
 ) -> Result<(), Stop>
-    ensures wrote { OnOk result (Adds (IsItem (is_shortest rules.spelling) depth) out.old.items out.new.items) }
+    ensures wrote { OnOk result (Adds (IsItem rules.spelling depth) out.old.items out.new.items) }
     ensures shorter { OnOk result (left_of cursor.new < left_of cursor.old) }
     ensures within { left_of cursor.new ≤ left_of cursor.old }
     ensures place { IfErr result (IsWithin (left_of cursor.old)) }
@@ -179,7 +178,7 @@ fn put_map(
     depth: usize,
     rules: Rules,
 ) -> Result<(), Stop>
-    ensures wrote { OnOk result (Adds (IsItem (is_shortest rules.spelling) depth) out.old.items out.new.items) }
+    ensures wrote { OnOk result (Adds (IsItem rules.spelling depth) out.old.items out.new.items) }
     ensures shorter { OnOk result (left_of cursor.new < left_of cursor.old) }
     ensures within { left_of cursor.new ≤ left_of cursor.old }
     ensures place { IfErr result (IsWithin (left_of cursor.old)) }
@@ -216,7 +215,7 @@ fn put_embedded(
     depth: usize,
     rules: Rules,
 ) -> Result<(), Stop>
-    ensures wrote { OnOk result (Adds (IsItem (is_shortest rules.spelling) depth) out.old.items out.new.items) }
+    ensures wrote { OnOk result (Adds (IsItem rules.spelling depth) out.old.items out.new.items) }
     ensures shorter { OnOk result (left_of cursor.new < left_of cursor.old) }
     ensures within { left_of cursor.new ≤ left_of cursor.old }
     ensures place { IfErr result (IsWithin (left_of cursor.old)) }
@@ -250,7 +249,7 @@ fn read_items(
     rules: Rules,
 ) -> Result<Contents, Stop>
     requires some { 0 < length close.now }
-    ensures items { IfOk result (λ items. AreItems (is_shortest rules.spelling) depth items.count items.bytes.items) }
+    ensures items { IfOk result (λ items. AreItems rules.spelling depth items.count items.bytes.items) }
     ensures within { left_of cursor.new ≤ left_of cursor.old }
     ensures place { IfErr result (IsWithin (left_of cursor.old)) }
 {
@@ -268,7 +267,7 @@ fn read_items(
 /// Encodes pairs of a key and a value up to the closing brace.
 #[cycle(items)]
 fn read_pairs(cursor: &mut Cursor<'_>, depth: usize, rules: Rules) -> Result<Contents, Stop>
-    ensures pairs { IfOk result (λ pairs. AreItems (is_shortest rules.spelling) depth (2 * pairs.count)
+    ensures pairs { IfOk result (λ pairs. AreItems rules.spelling depth (2 * pairs.count)
         pairs.bytes.items) }
     ensures within { left_of cursor.new ≤ left_of cursor.old }
     ensures place { IfErr result (IsWithin (left_of cursor.old)) }

@@ -2,10 +2,10 @@
 //! Encodes diagnostic notation as CBOR: the reverse of `cbor_diag`.
 #![tactic(auto)]
 
+ghost use Rattle.ciborium_ll_grammar.specs.declared.spelling.Spelling.TheVariants.{Any, Shortest};
 ghost use Rattle.std.specs.Prelude.{◌≡◌, ◌≤◌, true, false, IfErr, IfOk, OnOk};
 ghost use Rattle.ciborium_ll_text.specs.Text.{IsCharacters};
 ghost use Rattle.ciborium_ll_grammar.specs.Items.{IsItem};
-ghost use Rattle.ciborium_ll_grammar.specs.Spellings.{is_shortest};
 ghost use Rattle.ciborium_ll_grammar.specs.declared.limits.TheConstants.{MOST_LEVELS};
 ghost use Rattle.cbor_encode.specs.Places.{IsFaultIn};
 ghost use Rattle.cbor_encode.specs.Sequences.{AreSequence, has_underscore};
@@ -137,8 +137,8 @@ pub struct NotationError {
 /// stack each level takes the frames of three calls.
 pub fn encode(alloc: Global, text: &[u8], depth: usize) -> Result<Vec<u8>, NotationError>
     requires shallow { depth ≤ MOST_LEVELS }
-    ensures item { IfOk result (λ bytes. IsItem false depth bytes.items) }
-    ensures shortest { has_underscore text.now ≡ false → IfOk result (λ bytes. IsItem true depth bytes.items) }
+    ensures item { IfOk result (λ bytes. IsItem Any depth bytes.items) }
+    ensures shortest { has_underscore text.now ≡ false → IfOk result (λ bytes. IsItem Shortest depth bytes.items) }
     ensures text { OnOk result (IsCharacters text.now) }
     ensures fault { IfErr result (IsFaultIn text.now) }
 {
@@ -155,7 +155,7 @@ pub fn encode(alloc: Global, text: &[u8], depth: usize) -> Result<Vec<u8>, Notat
 /// Those of [`encode`], and [`Expected::NoMark`]: the start of an item with a mark.
 pub fn encode_shortest(alloc: Global, text: &[u8], depth: usize) -> Result<Vec<u8>, NotationError>
     requires shallow { depth ≤ MOST_LEVELS }
-    ensures item { IfOk result (λ bytes. IsItem true depth bytes.items) }
+    ensures item { IfOk result (λ bytes. IsItem Shortest depth bytes.items) }
     ensures text { OnOk result (IsCharacters text.now) }
     ensures fault { IfErr result (IsFaultIn text.now) }
 {
@@ -170,8 +170,8 @@ pub fn encode_shortest(alloc: Global, text: &[u8], depth: usize) -> Result<Vec<u
 /// Those of [`encode`], but [`Expected::Space`] in place of [`Expected::End`].
 pub fn encode_all(alloc: Global, text: &[u8], depth: usize) -> Result<Vec<u8>, NotationError>
     requires shallow { depth ≤ MOST_LEVELS }
-    ensures items { IfOk result (λ bytes. AreSequence false depth bytes.items) }
-    ensures shortest { has_underscore text.now ≡ false → IfOk result (λ bytes. AreSequence true depth bytes.items) }
+    ensures items { IfOk result (λ bytes. AreSequence Any depth bytes.items) }
+    ensures shortest { has_underscore text.now ≡ false → IfOk result (λ bytes. AreSequence Shortest depth bytes.items) }
     ensures text { OnOk result (IsCharacters text.now) }
     ensures fault { IfErr result (IsFaultIn text.now) }
 {
@@ -195,7 +195,7 @@ fn one_item(
     depth: usize,
     spelling: Spelling,
 ) -> Result<Vec<u8>, NotationError>
-    ensures item { IfOk result (λ bytes. IsItem (is_shortest spelling) depth bytes.items) }
+    ensures item { IfOk result (λ bytes. IsItem spelling depth bytes.items) }
     ensures text { OnOk result (IsCharacters text.now) }
     ensures fault { IfErr result (IsFaultIn text.now) }
 {

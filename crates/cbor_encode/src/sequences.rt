@@ -3,7 +3,6 @@
 ghost use Rattle.std.specs.Prelude.{◌≤◌, length, IfErr, IfOk, OnOk};
 ghost use Rattle.ciborium_ll_text.specs.Text.{IsCharacters};
 ghost use Rattle.ciborium_ll_grammar.specs.Items.{IsItem};
-ghost use Rattle.ciborium_ll_grammar.specs.Spellings.{is_shortest};
 ghost use Rattle.cbor_encode.specs.Left.{IsWithin, left_of};
 ghost use Rattle.cbor_encode.specs.Places.{NamesDamage};
 ghost use Rattle.cbor_encode.specs.Sequences.{AreSequence};
@@ -33,7 +32,7 @@ pub(crate) fn check_text(text: &[u8]) -> Result<(), Stop>
 
 /// Encodes a text that is one item.
 pub(crate) fn read_one(text: &[u8], depth: usize, rules: Rules) -> Result<Vec<u8>, Stop>
-    ensures item { IfOk result (λ bytes. IsItem (is_shortest rules.spelling) depth bytes.items) }
+    ensures item { IfOk result (λ bytes. IsItem rules.spelling depth bytes.items) }
     ensures place { IfErr result (IsWithin (length text.now)) }
 {
     let mut bytes = Vec::new(rules.alloc);
@@ -49,7 +48,7 @@ pub(crate) fn read_one(text: &[u8], depth: usize, rules: Rules) -> Result<Vec<u8
 
 /// Encodes a text that is a sequence of items.
 pub(crate) fn read_sequence(text: &[u8], depth: usize, rules: Rules) -> Result<Vec<u8>, Stop>
-    ensures items { IfOk result (λ bytes. AreSequence (is_shortest rules.spelling) depth bytes.items) }
+    ensures items { IfOk result (λ bytes. AreSequence rules.spelling depth bytes.items) }
     ensures place { IfErr result (IsWithin (length text.now)) }
 {
     let mut bytes = Vec::new(rules.alloc);

@@ -4,7 +4,6 @@ ghost use Rattle.std.specs.Prelude.{◌≡◌, ◌<◌, ◌≤◌, ◌+◌, ◌^
 ghost use Rattle.ciborium_ll_text.specs.Text.{IsCharacters, IsFront};
 ghost use Rattle.ciborium_ll_grammar.specs.Strings.{kind_header};
 ghost use Rattle.ciborium_ll_grammar.specs.Items.{IsItem};
-ghost use Rattle.ciborium_ll_grammar.specs.Spellings.{is_shortest};
 ghost use Rattle.cbor_encode.specs.Adding.{Adds};
 ghost use Rattle.cbor_encode.specs.Chunks.{AreWithin, HasChunks};
 ghost use Rattle.cbor_encode.specs.Left.{IsWithin, left_of};
@@ -109,7 +108,7 @@ pub(crate) fn put_string(
     alloc: Global,
     spelling: Spelling,
 ) -> Result<(), Stop>
-    ensures wrote { OnOk result ((depth : ℕ) → Adds (IsItem (is_shortest spelling) depth) out.old.items out.new.items) }
+    ensures wrote { OnOk result ((depth : ℕ) → Adds (IsItem spelling depth) out.old.items out.new.items) }
     ensures shorter { OnOk result (left_of cursor.new < left_of cursor.old) }
     ensures within { left_of cursor.new ≤ left_of cursor.old }
     ensures place { IfErr result (IsWithin (left_of cursor.old)) }
@@ -139,7 +138,7 @@ pub(crate) fn put_chunks(
     alloc: Global,
     spelling: Spelling,
 ) -> Result<(), Stop>
-    ensures wrote { OnOk result ((depth : ℕ) → Adds (IsItem (is_shortest spelling) depth) out.old.items out.new.items) }
+    ensures wrote { OnOk result ((depth : ℕ) → Adds (IsItem spelling depth) out.old.items out.new.items) }
     ensures shorter { OnOk result (left_of cursor.new < left_of cursor.old) }
     ensures within { left_of cursor.new ≤ left_of cursor.old }
     ensures place { IfErr result (IsWithin (left_of cursor.old)) }
@@ -178,7 +177,7 @@ fn read_chunks(
     alloc: Global,
     spelling: Spelling,
 ) -> Result<Vec<u8>, Stop>
-    ensures chunks { IfOk result (λ strings. HasChunks (is_shortest spelling) (kind_of is_text) strings.items) }
+    ensures chunks { IfOk result (λ strings. HasChunks spelling (kind_of is_text) strings.items) }
     ensures within { left_of cursor.new ≤ left_of cursor.old }
     ensures place { IfErr result (IsWithin (left_of cursor.old)) }
 {
@@ -203,8 +202,8 @@ fn put_opens(
 ) -> Result<usize, Stop>
     requires some { 0 < opens }
     requires counted { opens + left_of cursor.old < 2 ^ 64 }
-    requires chunks { AreWithin (is_shortest spelling) (kind_of is_text) opens strings.old.items }
-    ensures chunks { IfOk result (λ after. AreWithin (is_shortest spelling) (kind_of is_text) after strings.new.items) }
+    requires chunks { AreWithin spelling (kind_of is_text) opens strings.old.items }
+    ensures chunks { IfOk result (λ after. AreWithin spelling (kind_of is_text) after strings.new.items) }
     ensures some { IfOk result (λ after. 0 < after) }
     ensures counted { IfOk result (λ after. after + left_of cursor.new ≤ opens + left_of cursor.old) }
     ensures within { left_of cursor.new ≤ left_of cursor.old }
@@ -229,8 +228,8 @@ fn put_string_within(
     spelling: Spelling,
 ) -> Result<(), Stop>
     ensures chunks { OnOk result ((opens : ℕ) → 0 < opens
-        → AreWithin (is_shortest spelling) (kind_of is_text) opens strings.old.items
-        → AreWithin (is_shortest spelling) (kind_of is_text) opens strings.new.items) }
+        → AreWithin spelling (kind_of is_text) opens strings.old.items
+        → AreWithin spelling (kind_of is_text) opens strings.new.items) }
     ensures shorter { OnOk result (left_of cursor.new < left_of cursor.old) }
     ensures within { left_of cursor.new ≤ left_of cursor.old }
     ensures place { IfErr result (IsWithin (left_of cursor.old)) }
@@ -262,8 +261,8 @@ fn close_opens(
     is_text: bool,
     spelling: Spelling,
 ) -> Result<usize, Stop>
-    requires chunks { AreWithin (is_shortest spelling) (kind_of is_text) opens strings.old.items }
-    ensures chunks { IfOk result (λ opens. AreWithin (is_shortest spelling) (kind_of is_text) opens strings.new.items) }
+    requires chunks { AreWithin spelling (kind_of is_text) opens strings.old.items }
+    ensures chunks { IfOk result (λ opens. AreWithin spelling (kind_of is_text) opens strings.new.items) }
     ensures fewer { IfOk result (λ after. after ≤ opens) }
     ensures within { left_of cursor.new ≤ left_of cursor.old }
     ensures place { IfErr result (IsWithin (left_of cursor.old)) }

@@ -1,6 +1,7 @@
 -- Each answer of a copier of an item comes exactly if it may.
-use Rattle.std.proofs.Common.{◌≡◌, ◌∙◌, ℕ, ◌<◌, ◌↔◌, Bool, List, [], ◌++◌, length, arith, ap, refl, sym, append-nil}
+use Rattle.std.proofs.Common.{◌≡◌, ◌∙◌, ℕ, ◌<◌, ◌↔◌, List, [], ◌++◌, length, arith, ap, refl, sym, append-nil}
 use Rattle.std.proofs.Common.{length-append}
+use Rattle.ciborium_ll_grammar.specs.declared.spelling.Spelling.{Spelling}
 use Rattle.ciborium_ll_grammar.specs.Elements.{spelling}
 use Rattle.ciborium_ll_grammar.specs.Items.{IsItem}
 use Rattle.cbor_checker.specs.Reading.{BeginsItem}
@@ -9,7 +10,7 @@ use Rattle.cbor_item_copier.specs.declared.progress.Progress.TheVariants as r
 use Rattle.cbor_item_copier.specs.Reading.{IsEnd, IsFault, IsRoom, IsSpelled, Tells, TellsWhole}
 use Rattle.cbor_item_copier.proofs.RunLaws.{same_runs}
 
-module _ (s : Bool) (d : ℕ) (bytes : List ℕ) where
+module _ (s : Spelling) (d : ℕ) (bytes : List ℕ) where
   -- If the spelling is written, no byte of it is pending.
   same_spelled : (output more : List ℕ) → 0 < length more → IsSpelled bytes (output ++ more) → IsSpelled bytes output
       → ⊥

@@ -1,13 +1,14 @@
 -- Pieces of an item that are joined.
-use Rattle.std.proofs.Common.{◌≡◌, ℕ, ◌+◌, ◌-◌, ◌≤◌, Bool, List, ◌++◌, length, take, sym, ap, subst, ◌∙◌, arith}
+use Rattle.std.proofs.Common.{◌≡◌, ℕ, ◌+◌, ◌-◌, ◌≤◌, List, ◌++◌, length, take, sym, ap, subst, ◌∙◌, arith}
 use Rattle.std.proofs.Common.{append_assoc, length-append, inl, inr}
 use Rattle.std.proofs.lemmas.Bool.{cases_lt}
 use Rattle.std.proofs.lemmas.List.{take-append-le}
 use Rattle.std.proofs.Math.Seq.{take-append-add}
+use Rattle.ciborium_ll_grammar.specs.declared.spelling.Spelling.{Spelling}
 use Rattle.cbor_item_copier.specs.declared.progress.Copied.{Copied}
 use Rattle.cbor_item_copier.specs.Reading.{Copies, IsMore}
 
-module _ (s : Bool) (d : ℕ) (read written one two put more : List ℕ) where
+module _ (s : Spelling) (d : ℕ) (read written one two put more : List ℕ) where
   -- The first piece is taken whole.
   pub joined : (first second all : Copied) → Copies s d read written one put first → first.taken ≡ length one
       → Copies s d (read ++ one) (written ++ put) two more second → all.taken ≡ length one + second.taken
@@ -19,7 +20,8 @@ module _ (s : Bool) (d : ℕ) (read written one two put more : List ℕ) where
       record {
         taken = omega (arith, is, long, b.taken);
         goes = λ len less. elim (cases_lt len (length one)) [
-          | inl early ↦ rw (take-append-le len one two (omega (arith, early))) (a.goes len (omega (arith, early, whole)))
+          | inl early ↦ rw (take-append-le len one two (omega (arith, early)))
+              (a.goes len (omega (arith, early, whole)))
           | inr late ↦
               let k : ℕ = len - length one in
               let at : len ≡ length one + k = omega (arith, late) in
@@ -31,7 +33,7 @@ module _ (s : Bool) (d : ℕ) (read written one two put more : List ℕ) where
       }
 
 -- The first piece has all that is taken.
-pub kept_in : (s : Bool) (d : ℕ) (read written one two put : List ℕ) (copied : Copied)
+pub kept_in : (s : Spelling) (d : ℕ) (read written one two put : List ℕ) (copied : Copied)
     → Copies s d read written one put copied → (IsMore copied.progress → ⊥)
     → Copies s d read written (one ++ two) put copied
 kept_in s d read written one two put copied a none =

@@ -1,7 +1,8 @@
 -- The output of a copy of elements for bytes that go on as an item.
-use Rattle.std.proofs.Common.{◌≡◌, ℕ, ◌+◌, ◌-◌, ◌<◌, ◌⊎◌, false, List, [], ◌++◌, length, refl, sym, ap, ◌∙◌, arith, inl}
+use Rattle.std.proofs.Common.{◌≡◌, ℕ, ◌+◌, ◌-◌, ◌<◌, ◌⊎◌, List, [], ◌++◌, length, refl, sym, ap, ◌∙◌, arith, inl}
 use Rattle.std.proofs.Common.{inr, append_assoc, append-nil, length-append}
 use Rattle.std.proofs.lemmas.Bool.{cases_lt}
+use Rattle.ciborium_ll_grammar.specs.declared.spelling.Spelling.TheVariants.{Any}
 use Rattle.ciborium_ll_grammar.specs.Strings.{Kind, kind_header}
 use Rattle.ciborium_ll_grammar.specs.Elements.{Mark, spelling, IsRun}
 use Rattle.ciborium_ll_grammar.specs.Faults.{Answer, Short, Point, Due, Reaches, due, inside, body, body_inside}
@@ -59,8 +60,8 @@ standing (body_inside {title = t} reach q) =
     (inr (omega (arith, title_some t [] _ q, length-append o.behind t, length-append t [])))
 
 -- A fault is a fault for each larger number of elements.
-recount : {count : ℕ} {bytes : List ℕ} (f : HasFault false count bytes) (m : ℕ) → (standing f.reach).number < m
-    → HasFault false m bytes
+recount : {count : ℕ} {bytes : List ℕ} (f : HasFault Any count bytes) (m : ℕ) → (standing f.reach).number < m
+    → HasFault Any m bytes
 recount f m fewer = search ((standing f.reach).again m fewer)
 
 module _ {count : ℕ} {bytes output : List ℕ} (c : ComesTo count bytes Short output) where
@@ -91,7 +92,7 @@ cut_in phase count m bytes output says goes fewer = cut_again says.0 m fewer
 -- ---- if the bytes are whole elements, all of them are written
 
 short_written : {before ahead written : List ℕ} {marks : List Mark} {at : Point} {answer : Answer} {consumed : ℕ}
-    → FirstFault false before marks at ahead answer written consumed → at ≡ Due → answer ≡ Short
+    → FirstFault Any before marks at ahead answer written consumed → at ≡ Due → answer ≡ Short
     → written ≡ spelling marks
 short_written (CutTitle here is_cut) e is_short = refl
 short_written fault e is_short = absurd cc
@@ -102,7 +103,7 @@ whole_in {bytes = bytes} n marks run c =
     let f = c.fault in
     let o = standing f.reach in
     elim (cases_lt o.number n) [
-      | inl less ↦ absurd (no_fault false n bytes (in_front run) (recount f n less))
+      | inl less ↦ absurd (no_fault Any n bytes (in_front run) (recount f n less))
       | inr enough ↦ (
           let front = run_front n o.number o.elements o.element_marks o.run enough in
           let rest = o.behind ++ f.ahead in

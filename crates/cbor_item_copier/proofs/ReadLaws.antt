@@ -1,9 +1,10 @@
 -- What a copier of an item says of the bytes that it has read and of those that it has written.
-use Rattle.std.proofs.Common.{◌≡◌, ℕ, zero, suc, ◌+◌, ◌<◌, ◌≤◌, ◌⊎◌, Bool, true, false, List, [], ◌∷◌, ◌++◌, length}
+use Rattle.std.proofs.Common.{◌≡◌, ℕ, zero, suc, ◌+◌, ◌<◌, ◌≤◌, ◌⊎◌, true, false, List, [], ◌∷◌, ◌++◌, length}
 use Rattle.std.proofs.Common.{take, drop, refl, sym, ap, subst, ◌∙◌, arith, length-append, inl, inr}
 use Rattle.std.proofs.lemmas.List.{take-append-drop, take-append-le, length-take-le}
 use Rattle.std.proofs.Math.Nat.{eq-or-lt_of_le}
 use Rattle.std.proofs.Math.Seq.{take-append-add, take-length}
+use Rattle.ciborium_ll_grammar.specs.declared.spelling.Spelling.{Spelling}
 use Rattle.ciborium_ll_grammar.specs.Title.{AreBytes}
 use Rattle.ciborium_ll_grammar.specs.Elements.{Mark, IsRun, spelling}
 use Rattle.ciborium_ll_grammar.specs.Items.{IsItem}
@@ -38,7 +39,7 @@ step_due (p.Faulted fault) spot new b step = absurd step
 step_due phase spot new b step = refl
 
 -- After fewer bytes an item goes on.
-fed_before : (s : Bool) (d : ℕ) (fed : List ℕ) (spot : Spot) → IsFed s d fed spot → (len : ℕ)
+fed_before : (s : Spelling) (d : ℕ) (fed : List ℕ) (spot : Spot) → IsFed s d fed spot → (len : ℕ)
     → len < length fed → GoesOn s d (take len fed)
 fed_before s d fed spot fresh len less = absurd (omega (arith, less))
 fed_before s d fed spot (more {bytes = a} {spot = u} b byte is step) len less =
@@ -59,7 +60,7 @@ take_take len taken piece less most =
     sym (take-append-le len (take taken piece) (drop taken piece) long)
     ∙ ap (λ (z : List ℕ). take len z) (take-append-drop taken piece)
 
-pub copies : (s : Bool) (d : ℕ) (read written piece put : List ℕ) (copied : Copied) (new : Spot)
+pub copies : (s : Spelling) (d : ℕ) (read written piece put : List ℕ) (copied : Copied) (new : Spot)
     → copied.taken ≤ length piece → (IsMore copied.progress → copied.taken ≡ length piece)
     → (copied.progress ≡ r.TooLong → copied.taken < length piece)
     → IsFed s d (read ++ take copied.taken piece) new
@@ -122,7 +123,8 @@ last_off progress (b ∷ bytes) spot is last = absurd (no_last (λ x. x) (λ x. 
 
 -- ---- the same bytes, the same output and answer
 
-one_read : (s : Bool) (d : ℕ) (read written others : List ℕ) (one other : ItemCopier) → HasCopied s d read written one
+one_read : (s : Spelling) (d : ℕ) (read written others : List ℕ) (one other : ItemCopier)
+    → HasCopied s d read written one
     → HasCopied s d read others other
     → (item_spot one ≡ item_spot other) × (elements_spot one ≡ elements_spot other)
     × (written ++ pending one ≡ others ++ pending other)
@@ -131,12 +133,12 @@ one_read s d read written others one other a b =
     one_fed s d read (written ++ pending one) (others ++ pending other) (item_spot one) (item_spot other)
     (elements_spot one) (elements_spot other) a b
 
-pub one_output : (s : Bool) (d : ℕ) (read written others : List ℕ) (one other : ItemCopier)
+pub one_output : (s : Spelling) (d : ℕ) (read written others : List ℕ) (one other : ItemCopier)
     → HasCopied s d read written one → HasCopied s d read others other
     → written ++ pending one ≡ others ++ pending other
 one_output s d read written others one other a b = (one_read s d read written others one other a b).2
 
-pub one_held : (s : Bool) (d : ℕ) (read written others : List ℕ) (one other : ItemCopier)
+pub one_held : (s : Spelling) (d : ℕ) (read written others : List ℕ) (one other : ItemCopier)
     → HasCopied s d read written one → HasCopied s d read others other
     → length written + held one ≡ length others + held other
 unfolding copy.held copy.pending
@@ -151,37 +153,38 @@ one_held s d read written others one other a b =
       length-append others other.copier.pending,
     )
 
-one_place : (s : Bool) (d : ℕ) (read written : List ℕ) (one other : ItemCopier) → HasCopied s d read written one
+one_place : (s : Spelling) (d : ℕ) (read written : List ℕ) (one other : ItemCopier) → HasCopied s d read written one
     → HasCopied s d read written other → (pending one ≡ pending other) × (item_spot one ≡ item_spot other)
 one_place s d read written one other a b =
     let same = one_read s d read written written one other a b in
     ((same_front written written (pending one) (pending other) refl same.2).1, same.0)
 
-pub one_pending : (s : Bool) (d : ℕ) (read written : List ℕ) (one other : ItemCopier) → HasCopied s d read written one
+pub one_pending : (s : Spelling) (d : ℕ) (read written : List ℕ) (one other : ItemCopier)
+    → HasCopied s d read written one
     → HasCopied s d read written other → pending one ≡ pending other
 one_pending s d read written one other a b = (one_place s d read written one other a b).0
 
-pub same_answer : (s : Bool) (d : ℕ) (read written : List ℕ) (one other : ItemCopier) (progress : Progress)
+pub same_answer : (s : Spelling) (d : ℕ) (read written : List ℕ) (one other : ItemCopier) (progress : Progress)
     → HasCopied s d read written one → HasCopied s d read written other → Answers one progress
     → Answers other progress
 unfolding Answers
 same_answer s d read written one other progress a b says =
     let same = one_place s d read written one other a b in says ∙ rw (same.0, same.1) refl
 
-pub one_answer : (s : Bool) (d : ℕ) (read written : List ℕ) (one other : ItemCopier) (first second : Progress)
+pub one_answer : (s : Spelling) (d : ℕ) (read written : List ℕ) (one other : ItemCopier) (first second : Progress)
     → HasCopied s d read written one → HasCopied s d read written other → Answers one first → Answers other second
     → first ≡ second
 unfolding Answers
 one_answer s d read written one other first second a b says tells =
     let same = one_place s d read written one other a b in says ∙ (rw (same.0, same.1) refl ∙ sym tells)
 
-pub same_end : (s : Bool) (d : ℕ) (read written : List ℕ) (one other : ItemCopier) (end : End)
+pub same_end : (s : Spelling) (d : ℕ) (read written : List ℕ) (one other : ItemCopier) (end : End)
     → HasCopied s d read written one → HasCopied s d read written other → AnswersEnd one end → AnswersEnd other end
 unfolding AnswersEnd
 same_end s d read written one other end a b says =
     let same = one_place s d read written one other a b in says ∙ rw (same.0, same.1) refl
 
-pub one_end : (s : Bool) (d : ℕ) (read written : List ℕ) (one other : ItemCopier) (first second : End)
+pub one_end : (s : Spelling) (d : ℕ) (read written : List ℕ) (one other : ItemCopier) (first second : End)
     → HasCopied s d read written one → HasCopied s d read written other → AnswersEnd one first
     → AnswersEnd other second → first ≡ second
 unfolding AnswersEnd
@@ -201,7 +204,7 @@ start_clear zero = refl
 start_clear (suc count) = refl
 
 -- A copier that has read no byte has written none, and holds none.
-pub fresh_clear : (s : Bool) (d : ℕ) (written : List ℕ) (copier : ItemCopier) → HasCopied s d [] written copier
+pub fresh_clear : (s : Spelling) (d : ℕ) (written : List ℕ) (copier : ItemCopier) → HasCopied s d [] written copier
     → (written ≡ []) × (pending copier ≡ []) × (held copier ≡ 0)
 unfolding HasCopied copy.held copy.pending
 fresh_clear s d written copier is =
@@ -224,14 +227,15 @@ some_held copier = held_some copier.copier
 
 -- ---- the output
 
-pub read_spelled : (s : Bool) (d : ℕ) (read written : List ℕ) (copier : ItemCopier) → HasCopied s d read written copier
+pub read_spelled : (s : Spelling) (d : ℕ) (read written : List ℕ) (copier : ItemCopier)
+    → HasCopied s d read written copier
     → IsItem s d read → (count : ℕ) (marks : List Mark) → IsRun count read marks
     → written ++ pending copier ≡ spelling marks
 unfolding HasCopied
 read_spelled s d read written copier is item count marks run =
     spelled_exact s d read (written ++ pending copier) (item_spot copier) (elements_spot copier) is item count marks run
 
-pub read_so_far : (s : Bool) (d : ℕ) (read written behind : List ℕ) (copier : ItemCopier) (count : ℕ)
+pub read_so_far : (s : Spelling) (d : ℕ) (read written behind : List ℕ) (copier : ItemCopier) (count : ℕ)
     (marks : List Mark) → HasCopied s d read written copier → AreBytes behind → IsItem s d (read ++ behind)
     → IsRun count (read ++ behind) marks → count ≤ most
     → (rest : List ℕ) × (spelling marks ≡ (written ++ pending copier) ++ rest)

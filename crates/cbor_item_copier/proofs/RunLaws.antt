@@ -1,7 +1,9 @@
 -- An item is a run of some number of elements. Bytes that go on as an item have no fault as elements.
-use Rattle.std.proofs.Common.{◌≡◌, ℕ, zero, suc, ◌-◌, ◌*◌, ◌<◌, ◌≤◌, Bool, false, List, [], ◌∷◌, ◌++◌, length}
+use Rattle.std.proofs.Common.{◌≡◌, ℕ, zero, suc, ◌-◌, ◌*◌, ◌<◌, ◌≤◌, List, [], ◌∷◌, ◌++◌, length}
 use Rattle.std.proofs.Common.{refl, sym, ap, ◌∙◌, arith, inl, inr, append_assoc, length-append}
 use Rattle.std.proofs.lemmas.Bool.{cases_lt}
+use Rattle.ciborium_ll_grammar.specs.declared.spelling.Spelling.{Spelling}
+use Rattle.ciborium_ll_grammar.specs.declared.spelling.Spelling.TheVariants.{Any}
 use Rattle.ciborium_ll_grammar.specs.declared.hdr.Header.{Header}
 use Rattle.ciborium_ll_grammar.specs.declared.hdr.Header.TheVariants as h
 use Rattle.ciborium_ll_grammar.specs.Title.{IsTitle, AreBytes}
@@ -50,7 +52,8 @@ closed : {u : List ℕ} → SomeRun u → SomeRun (u ++ 0xff ∷ [])
 closed items = both items (one (plain h.Break break_title tt))
 
 mutual
-  completed_run : (s : Bool) (d : ℕ) (x : Header) (t r : List ℕ) → IsTitle t x → Completes s d x r → SomeRun (t ++ r)
+  completed_run : (s : Spelling) (d : ℕ) (x : Header) (t r : List ℕ) → IsTitle t x → Completes s d x r
+      → SomeRun (t ++ r)
   completed_run s d x t r q (byte_string long) = one (string Bytes (definite (rw (← long) at q)) (tt, tt))
   completed_run s d x t r q (text_string long sound) = one (string Text (definite (rw (← long) at q)) (sound, tt))
   completed_run s d x t r q (open_bytes {bodies = bs} are taken) =
@@ -65,12 +68,12 @@ mutual
       titled q tt (closed (items_run s e (2 * n) u i))
   completed_run s d x t r q number = titled q tt none_run
 
-  items_run : (s : Bool) (d n : ℕ) (w : List ℕ) → AreItems s d n w → SomeRun w
+  items_run : (s : Spelling) (d n : ℕ) (w : List ℕ) → AreItems s d n w → SomeRun w
   items_run s d n w no_items = none_run
   items_run s d n w (more_items {count = m} {title = t} {rest = r} {others = a} {header = x} q k c i) =
       rw (append_assoc t r a) at (both (completed_run s d x t r q c) (items_run s d m a i))
 
-pub item_run : (s : Bool) (d : ℕ) (item : List ℕ) → IsItem s d item → SomeRun item
+pub item_run : (s : Spelling) (d : ℕ) (item : List ℕ) → IsItem s d item → SomeRun item
 item_run s d item i = items_run s d (suc zero) item i
 
 -- ---- runs by their numbers of elements
@@ -103,11 +106,11 @@ same_runs n w ms (next {count = i} {first = x} {rest = y} {marks = os} {others =
     let s = same_runs i y ps rest j y' ps' rest' o.2 in
     (ap suc s.0, cc (o.1, s.1))
 
-in_none : (w : List ℕ) → BeginsWithElements false zero w
+in_none : (w : List ℕ) → BeginsWithElements Any zero w
 in_none w = whole_in_front zero [] w [] done
 
 -- A run begins with each smaller number of elements.
-pub run_front : (m n : ℕ) (w : List ℕ) (ms : List Mark) → IsRun n w ms → m ≤ n → BeginsWithElements false m w
+pub run_front : (m n : ℕ) (w : List ℕ) (ms : List Mark) → IsRun n w ms → m ≤ n → BeginsWithElements Any m w
 run_front zero n w ms run fewer = in_none w
 run_front (suc m) n w ms done fewer = absurd (omega (arith, fewer))
 run_front (suc m) n w ms (next {count = j} {first = x} {rest = y} {marks = ns} {others = os} element rest) fewer =
@@ -131,7 +134,8 @@ run_goes_on count n bytes more ms are run never =
     ]
 
 -- If an item begins with the bytes, each number of elements does.
-pub item_goes_on : (count : ℕ) (s : Bool) (d : ℕ) (bytes more : List ℕ) → AreBytes bytes → IsItem s d (bytes ++ more)
+pub item_goes_on : (count : ℕ) (s : Spelling) (d : ℕ) (bytes more : List ℕ) → AreBytes bytes
+    → IsItem s d (bytes ++ more)
     → NoneGoOn count bytes → ⊥
 item_goes_on count s d bytes more are item never =
     let o = item_run s d (bytes ++ more) item in

@@ -1,5 +1,6 @@
 -- The states that plain numbers hold.
-use Rattle.std.proofs.Common.{◌≡◌, ◌∙◌, ℕ, Bool, List, refl, sym, ap}
+use Rattle.std.proofs.Common.{◌≡◌, ◌∙◌, ℕ, List, refl, sym, ap}
+use Rattle.ciborium_ll_grammar.specs.declared.spelling.Spelling.{Spelling}
 use Rattle.cbor_checker.specs.Checking as check
 use Rattle.cbor_checker.proofs.SavedLaws.{one_held}
 use Rattle.cbor_copier.specs.Copying as copy
@@ -40,26 +41,26 @@ saved_end snapshot one other first second a b says tells =
     says ∙ (rw (saved_pending snapshot one other a b, saved_item snapshot one other a b) refl ∙ sym tells)
 
 -- A copier with numbers that keep these bytes has read and written them.
-pub saved_read : (strict : Bool) (depth : ℕ) (read written : List ℕ) (copier : ItemCopier) (snapshot : Snapshot)
-    → Keeps strict depth read written snapshot → Saves copier snapshot → HasCopied strict depth read written copier
+pub saved_read : (allowed : Spelling) (depth : ℕ) (read written : List ℕ) (copier : ItemCopier) (snapshot : Snapshot)
+    → Keeps allowed depth read written snapshot → Saves copier snapshot → HasCopied allowed depth read written copier
 unfolding Keeps check.Saves copy.Saves copy.pending HasCopied
-saved_read strict depth read written copier snapshot keeps saves =
+saved_read allowed depth read written copier snapshot keeps saves =
     let (item, elements, fed, holds) = keeps in
     let item_is = one_held snapshot.checker item (item_spot copier) holds.item_is saves.0 in
     let elements_are = same_held snapshot.copier elements (kept_spot copier) holds.elements_are saves.1 in
     rw (item_is, elements_are) at fed
 
 -- Numbers that keep some bytes are those of a state.
-pub keeps_some : (strict : Bool) (depth : ℕ) (read written : List ℕ) (snapshot : Snapshot)
-    → Keeps strict depth read written snapshot → HoldsSome snapshot
+pub keeps_some : (allowed : Spelling) (depth : ℕ) (read written : List ℕ) (snapshot : Snapshot)
+    → Keeps allowed depth read written snapshot → HoldsSome snapshot
 unfolding Keeps check.HoldsSome copy.HoldsSome
-keeps_some strict depth read written snapshot keeps =
+keeps_some allowed depth read written snapshot keeps =
     let (item, elements, fed, holds) = keeps in ((item, holds.item_is), (elements, holds.elements_are))
 
-pub saves_keep : (strict : Bool) (depth : ℕ) (read written : List ℕ) (copier : ItemCopier) (snapshot : Snapshot)
-    → Saves copier snapshot → HasCopied strict depth read written copier → Keeps strict depth read written snapshot
+pub saves_keep : (allowed : Spelling) (depth : ℕ) (read written : List ℕ) (copier : ItemCopier) (snapshot : Snapshot)
+    → Saves copier snapshot → HasCopied allowed depth read written copier → Keeps allowed depth read written snapshot
 unfolding Keeps check.Saves copy.Saves copy.pending HasCopied
-saves_keep strict depth read written copier snapshot saves was = (
+saves_keep allowed depth read written copier snapshot saves was = (
   item_spot copier,
   kept_spot copier,
   was,

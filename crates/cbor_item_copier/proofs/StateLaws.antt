@@ -1,6 +1,7 @@
 -- Laws of the states of a copier of items.
-use Rattle.std.proofs.Common.{◌≡◌, ℕ, suc, ◌+◌, ◌-◌, ◌<◌, ◌≤◌, Bool, true, List, [], ◌∷◌, ◌++◌, length, refl, sym, ap}
+use Rattle.std.proofs.Common.{◌≡◌, ℕ, suc, ◌+◌, ◌-◌, ◌<◌, ◌≤◌, true, List, [], ◌∷◌, ◌++◌, length, refl, sym, ap}
 use Rattle.std.proofs.Common.{subst, ◌∙◌, arith, append-nil, length-append}
+use Rattle.ciborium_ll_grammar.specs.declared.spelling.Spelling.{Spelling}
 use Rattle.ciborium_ll_grammar.specs.Title.{AreBytes}
 use Rattle.ciborium_ll_grammar.specs.Elements.{Mark, IsRun, spelling}
 use Rattle.ciborium_ll_grammar.specs.Items.{IsItem}
@@ -39,7 +40,7 @@ same_taken (p.Faulted fault) fed xs ys a b = (one_copy.same_last xs ys a.0 b.0 (
 same_taken phase fed xs ys a b = sym a ∙ b
 
 -- The same bytes lead to one state and one output.
-pub one_fed : (s : Bool) (d : ℕ) (fed output others : List ℕ) (item other : Spot) (a b : Elements)
+pub one_fed : (s : Spelling) (d : ℕ) (fed output others : List ℕ) (item other : Spot) (a b : Elements)
     → AreFed s d fed item a output → AreFed s d fed other b others → (item ≡ other) × (a ≡ b) × (output ≡ others)
 one_fed s d fed output others item other a b f g =
     let one = one_spot s d fed item other f.checked g.checked in
@@ -49,19 +50,19 @@ one_fed s d fed output others item other a b f g =
     (one, same.0, same.1)
 
 -- At the start, no byte came to the checker or to the copier of elements.
-pub fresh_fed : (s : Bool) (d : ℕ) (new : Spot) (elements : Elements) (output : List ℕ) → IsFed s d [] new
+pub fresh_fed : (s : Spelling) (d : ℕ) (new : Spot) (elements : Elements) (output : List ℕ) → IsFed s d [] new
     → AreElementsFed most [] elements output → AreFed s d [] new elements output
 fresh_fed s d new elements output checked copied =
     search (subst (λ (z : Spot). AreTaken z.phase [] []) (one_spot s d [] (start s d) new fresh checked) refl)
 
 -- A checker that took the same bytes can replace the checker of a state.
-pub same_fed : (s : Bool) (d : ℕ) (fed output : List ℕ) (old new : Spot) (elements : Elements) → IsFed s d fed new
+pub same_fed : (s : Spelling) (d : ℕ) (fed output : List ℕ) (old new : Spot) (elements : Elements) → IsFed s d fed new
     → AreFed s d fed old elements output → AreFed s d fed new elements output
 same_fed s d fed output old new elements checked was = rw (one_spot s d fed old new was.checked checked) at was
 
 -- ---- the copied bytes go on as an item
 
-pub fed_bytes : (s : Bool) (d : ℕ) (fed : List ℕ) (spot : Spot) → IsFed s d fed spot → AreBytes fed
+pub fed_bytes : (s : Spelling) (d : ℕ) (fed : List ℕ) (spot : Spot) → IsFed s d fed spot → AreBytes fed
 fed_bytes s d fed spot fresh = tt
 fed_bytes s d fed spot (more {bytes = a} {spot = old} b byte is step) =
     AreBytes-append a (b ∷ []) (fed_bytes s d a old is) (byte, tt)
@@ -70,21 +71,22 @@ no_step : (phase : Phase) (spot new : Spot) (b : ℕ) → FaultIn phase → Step
 no_step (p.Faulted fault) spot new b has step = step
 no_step phase spot new b has step = has
 
-pub sound_goes : (s : Bool) (d : ℕ) (fed : List ℕ) (spot : Spot) → IsFed s d fed spot → (IsAtFault spot → ⊥)
+pub sound_goes : (s : Spelling) (d : ℕ) (fed : List ℕ) (spot : Spot) → IsFed s d fed spot → (IsAtFault spot → ⊥)
     → NoneGoOn most fed → ⊥
 sound_goes s d fed spot is sound never =
     sound ((fault_exact s d fed spot is).1 (λ behind i.
     item_goes_on most s d fed behind (fed_bytes s d fed spot is) i never))
 
 -- Some elements begin with the bytes before the last byte.
-pub before_goes : (s : Bool) (d : ℕ) (fed : List ℕ) (spot : Spot) → IsFed s d fed spot → (before : List ℕ) (last : ℕ)
+pub before_goes : (s : Spelling) (d : ℕ) (fed : List ℕ) (spot : Spot) → IsFed s d fed spot
+    → (before : List ℕ) (last : ℕ)
     → fed ≡ before ++ last ∷ [] → NoneGoOn most before → ⊥
 before_goes s d fed spot fresh before last e never = omega (arith, ap length e, length-append before (last ∷ []))
 before_goes s d fed spot (more {bytes = a} {spot = old} b byte is step) before last e never =
     sound_goes s d a old is (λ has. no_step old.phase old spot b has step)
     (rw (one_copy.same_last a before b last e).0 never)
 
-goes_in : (phase : Phase) (s : Bool) (d : ℕ) (fed bytes : List ℕ) (spot : Spot) → phase ≡ spot.phase
+goes_in : (phase : Phase) (s : Spelling) (d : ℕ) (fed bytes : List ℕ) (spot : Spot) → phase ≡ spot.phase
     → IsFed s d fed spot → AreTaken phase fed bytes → NoneGoOn most bytes → ⊥
 goes_in (p.Faulted fault) s d fed bytes spot at is taken never =
     before_goes s d fed spot is bytes taken.0 taken.1 never
@@ -93,7 +95,7 @@ goes_in phase s d fed bytes spot at is taken never =
 
 -- ---- the output
 
-module _ (s : Bool) (d : ℕ) (fed output : List ℕ) (item : Spot) (elements : Elements)
+module _ (s : Spelling) (d : ℕ) (fed output : List ℕ) (item : Spot) (elements : Elements)
     (are : AreFed s d fed item elements output) where
   pub cut : IsCutCopy are.bytes output
   cut = λ count fewer. cut_in elements.phase most count are.bytes output (told are.copied)

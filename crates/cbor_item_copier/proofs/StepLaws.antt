@@ -1,9 +1,10 @@
 -- The steps of a piece through a checker, and through a copier of elements, which does not get the byte at fault.
-use Rattle.std.proofs.Common.{◌≡◌, ◌≢◌, ℕ, zero, suc, ◌+◌, ◌<◌, ◌≤◌, ◌^◌, ◌⊎◌, ◌↔◌, Bool, true, List, [], ◌∷◌, ◌++◌, length, take, drop}
+use Rattle.std.proofs.Common.{◌≡◌, ◌≢◌, ℕ, zero, suc, ◌+◌, ◌<◌, ◌≤◌, ◌^◌, ◌⊎◌, ◌↔◌, true, List, [], ◌∷◌, ◌++◌, length, take, drop}
 use Rattle.std.proofs.Common.{refl, sym, ap, subst, arith, inl, inr, append_assoc, append-nil, length-append}
 use Rattle.std.proofs.Common.{get_or, take-append-drop}
 use Rattle.std.proofs.lemmas.Bool.{cases_lt}
 use Rattle.std.proofs.lemmas.List.{take_all, take_more, length-take-le, take-take}
+use Rattle.ciborium_ll_grammar.specs.declared.spelling.Spelling.{Spelling}
 use Rattle.ciborium_ll_grammar.specs.Title.{AreBytes}
 use Rattle.ciborium_ll_grammar.proofs.AffixLaws.{AreBytes-append, AreBytes-take}
 use Rattle.ciborium_ll_text.proofs.Lists.{length_zero}
@@ -40,14 +41,14 @@ back_bytes (x ∷ a) b are = back_bytes a b are.1
 -- ---- a checker takes bytes
 
 -- If an item goes on and the answer is not `More`, no more bytes can be counted.
-too_many : (progress : Progress) (s : Bool) (d : ℕ) (fed : List ℕ) → GoesOn s d fed → (IsMore progress → ⊥)
+too_many : (progress : Progress) (s : Spelling) (d : ℕ) (fed : List ℕ) → GoesOn s d fed → (IsMore progress → ⊥)
     → Tells s d fed progress → length fed + 1 ≡ 2 ^ 64
 too_many r.TooLong s d fed on never tells = tells.1
 too_many (r.More due) s d fed on never tells = absurd (never tt)
 too_many (r.Ended len) s d fed on never tells = absurd (on.unended tells.0)
 too_many (r.Fault fault) s d fed on never tells = absurd (tells on.begins)
 
-pub none_taken : (s : Bool) (d : ℕ) (fed bytes : List ℕ) (feed : Feed) (old new : Spot) → 0 < length bytes
+pub none_taken : (s : Spelling) (d : ℕ) (fed bytes : List ℕ) (feed : Feed) (old new : Spot) → 0 < length bytes
     → feed.taken ≡ 0 → is_due old.phase ≡ true → IsFed s d fed old → IsFed s d (fed ++ take feed.taken bytes) new
     → Reads s d fed bytes feed → IsFed s d fed new × (length fed + 1 ≡ 2 ^ 64)
 none_taken s d fed bytes feed old new some none due was is so =
@@ -113,11 +114,11 @@ given_or_full cr.TooLong bytes written room full none = inl (none (λ is. is))
 -- The bytes that were to be written are written, as far as there is room. No byte is read.
 pub only_written : (given put : List ℕ) (taken : ℕ) (old new : Copier)
     → ((read : List ℕ) → HasCopied most read given old → HasCopied most (read ++ take taken []) (given ++ put) new)
-    → (strict : Bool) (depth : ℕ) (fed : List ℕ) (item : Spot)
-    → AreFed strict depth fed item (putting [] (copy.spot_of old)) (given ++ pending_of old)
-    → AreFed strict depth fed item (putting [] (copy.spot_of new)) ((given ++ put) ++ pending_of new)
+    → (allowed : Spelling) (depth : ℕ) (fed : List ℕ) (item : Spot)
+    → AreFed allowed depth fed item (putting [] (copy.spot_of old)) (given ++ pending_of old)
+    → AreFed allowed depth fed item (putting [] (copy.spot_of new)) ((given ++ put) ++ pending_of new)
 unfolding HasCopied copy.pending
-only_written given put taken old new goes strict depth fed item was = record {
+only_written given put taken old new goes allowed depth fed item was = record {
   checked = was.checked;
   bytes = was.bytes;
   taken = was.taken;
@@ -196,7 +197,7 @@ kept_within : (new : Spot) (taken kept : ℕ) → AreKept new taken kept → kep
 kept_within new taken kept (inl fault) = omega (arith, fault.1)
 kept_within new taken kept (inr sound) = omega (arith, sound.1)
 
-module _ (s : Bool) (d : ℕ) (fed bytes : List ℕ) (taken kept : ℕ) (old new : Spot) (due : is_due old.phase ≡ true)
+module _ (s : Spelling) (d : ℕ) (fed bytes : List ℕ) (taken kept : ℕ) (old new : Spot) (due : is_due old.phase ≡ true)
     (within : taken ≤ length bytes) (checked : IsFed s d (fed ++ take taken bytes) new) where
   -- If there is a fault, the taken bytes are the copied bytes and one last byte.
   less_last : kept + 1 ≡ taken → fed ++ take taken bytes ≡ (fed ++ take kept bytes) ++ get_or bytes kept 0 ∷ []

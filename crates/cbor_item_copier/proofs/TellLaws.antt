@@ -3,6 +3,7 @@ use Rattle.std.proofs.Common.{◌≡◌, ℕ, ◌+◌, ◌<◌, ◌≤◌, ◌^�
 use Rattle.std.proofs.Common.{◌∙◌, arith, inl, inr, append-nil, length-append, slice_index, ◌%◌, ◌==◌, cond}
 use Rattle.std.proofs.lemmas.Bool.{eqb-true, eqb-false}
 use Rattle.ciborium_ll_text.proofs.Lists.{length_zero}
+use Rattle.ciborium_ll_grammar.specs.declared.spelling.Spelling.{Spelling}
 use Rattle.ciborium_ll_grammar.specs.Title.{affix_len}
 use Rattle.cbor_copier.specs.Spots.{Spot as Elements}
 use Rattle.cbor_copier.specs.Steps.{IsFed as AreElementsFed, fresh as start, more as go}
@@ -66,7 +67,7 @@ more_due (b ∷ bytes) spot due e = absurd cc
 
 -- ---- the meaning of the answer
 
-module _ (s : Bool) (d : ℕ) (fed output : List ℕ) (item : Spot) (elements : Elements)
+module _ (s : Spelling) (d : ℕ) (fed output : List ℕ) (item : Spot) (elements : Elements)
     (are : AreFed s d fed item elements output) where
   whole_told : (phase : Phase) → AreTaken phase fed are.bytes → reads.Tells s d fed (progress_in phase item)
       → TellsWhole s d fed output (of_checker (progress_in phase item))
@@ -82,14 +83,14 @@ module _ (s : Bool) (d : ℕ) (fed output : List ℕ) (item : Spot) (elements : 
       → TellsWhole s d fed output (of_checker (checker.progress_of item))
   tells_whole left short = whole_told item.phase are.taken (told.tells s d fed item are.checked left short)
 
-no_room : (phase : Phase) (s : Bool) (d : ℕ) (fed output : List ℕ) (item : Spot)
+no_room : (phase : Phase) (s : Spelling) (d : ℕ) (fed output : List ℕ) (item : Spot)
     → TellsWhole s d fed output (of_checker (progress_in phase item))
     → Tells s d fed output (of_checker (progress_in phase item))
 no_room p.Ended s d fed output item says = says
 no_room phase s d fed output item says = says
 
 -- The answer is true of the bytes and the output, with any pending bytes.
-tells : (rest : List ℕ) (s : Bool) (d : ℕ) (fed given : List ℕ) (item : Spot) (elements : Elements)
+tells : (rest : List ℕ) (s : Spelling) (d : ℕ) (fed given : List ℕ) (item : Spot) (elements : Elements)
     → AreFed s d fed item elements (given ++ rest) → has_left item.phase ≡ true
     → length item.front ≤ affix_len (slice_index item.front 0 % 32)
     → Tells s d fed given (progress_of rest item)
@@ -104,7 +105,8 @@ tells (b ∷ rest) s d fed given item elements are left short = record {
 }
 
 -- If no more bytes can be counted, `TooLong` is true of the bytes and the output.
-pub tells_long : (rest : List ℕ) (s : Bool) (d : ℕ) (fed given : List ℕ) (item : Spot) (elements : Elements) (due : ℕ)
+pub tells_long : (rest : List ℕ) (s : Spelling) (d : ℕ) (fed given : List ℕ) (item : Spot) (elements : Elements)
+    (due : ℕ)
     → r.More due ≡ progress_of rest item → AreFed s d fed item elements (given ++ rest) → length fed + 1 ≡ 2 ^ 64
     → Tells s d fed given r.TooLong
 tells_long rest s d fed given item elements due e are far =
@@ -125,14 +127,14 @@ none_out fed output elements start e = refl
 none_out fed output elements (go {bytes = a} b new byte is step) e =
     absurd (omega (arith, ap length e, length-append a (b ∷ [])))
 
-end_in : (phase : Phase) (s : Bool) (d : ℕ) (fed given : List ℕ) (item : Spot) → 0 < length fed
+end_in : (phase : Phase) (s : Spelling) (d : ℕ) (fed given : List ℕ) (item : Spot) → 0 < length fed
     → Tells s d fed given (of_checker (progress_in phase item))
     → TellsEnd s d fed given (of_end (checker.end_in (progress_in phase item)))
 end_in p.Ended s d fed given item some says = inr ((says.0.0, refl), says.1)
 end_in (p.Faulted fault) s d fed given item some says = says
 end_in phase s d fed given item some says = (some, says)
 
-end_by : (b : Bool) (s : Bool) (d : ℕ) (fed given : List ℕ) (item : Spot) (elements : Elements)
+end_by : (b : Bool) (s : Spelling) (d : ℕ) (fed given : List ℕ) (item : Spot) (elements : Elements)
     → (item.offset == 0) ≡ b → AreFed s d fed item elements (given ++ [])
     → Tells s d fed given (of_checker (checker.progress_of item))
     → TellsEnd s d fed given (of_end (cond b g.Between (checker.end_in (checker.progress_of item))))
@@ -145,7 +147,7 @@ end_by false s d fed given item elements e are says =
     let counts = told.fed_counts s d fed item are.checked in
     end_in item.phase s d fed given item (omega (arith, counts, eqb-false item.offset 0 e)) says
 
-tells_end : (rest : List ℕ) (s : Bool) (d : ℕ) (fed given : List ℕ) (item : Spot) (elements : Elements)
+tells_end : (rest : List ℕ) (s : Spelling) (d : ℕ) (fed given : List ℕ) (item : Spot) (elements : Elements)
     → AreFed s d fed item elements (given ++ rest) → Tells s d fed given (progress_of rest item)
     → TellsEnd s d fed given (end_of rest item)
 tells_end [] s d fed given item elements are says =
@@ -165,19 +167,19 @@ pub checker_ends : (copier : ItemCopier) (end : CheckedEnd) → pending copier �
 unfolding AnswersEnd
 checker_ends copier end none answers = rw none (ap of_end answers)
 
-tells_now : (copier : ItemCopier) (s : Bool) (d : ℕ) (fed given : List ℕ) → IsItemCopied s d fed given copier
+tells_now : (copier : ItemCopier) (s : Spelling) (d : ℕ) (fed given : List ℕ) → IsItemCopied s d fed given copier
     → Tells s d fed given (progress_of (pending copier) (item_spot copier))
 tells_now copier s d fed given is =
     tells (pending copier) s d fed given (item_spot copier) (elements_spot copier) is copier.checker.position.left
     copier.checker.position.begun
 
 pub copier_tells : (copier : ItemCopier) (progress : Progress)
-    → progress ≡ progress_of (pending copier) (item_spot copier) → (s : Bool) (d : ℕ) (fed given : List ℕ)
+    → progress ≡ progress_of (pending copier) (item_spot copier) → (s : Spelling) (d : ℕ) (fed given : List ℕ)
     → IsItemCopied s d fed given copier → Tells s d fed given progress
 copier_tells copier progress e s d fed given is = rw e (tells_now copier s d fed given is)
 
 pub copier_ends : (copier : ItemCopier) (end : End) → end ≡ end_of (pending copier) (item_spot copier)
-    → (s : Bool) (d : ℕ) (fed given : List ℕ) → IsItemCopied s d fed given copier → TellsEnd s d fed given end
+    → (s : Spelling) (d : ℕ) (fed given : List ℕ) → IsItemCopied s d fed given copier → TellsEnd s d fed given end
 copier_ends copier end e s d fed given is =
     rw e (tells_end (pending copier) s d fed given (item_spot copier) (elements_spot copier) is
     (tells_now copier s d fed given is))

@@ -1,5 +1,6 @@
 -- A copier of an item, by the states of its checker and its copier of elements.
-use Rattle.std.specs.Prelude.{◌≡◌, ℕ, Bool, List, [], ◌∷◌, ◌++◌}
+use Rattle.std.specs.Prelude.{◌≡◌, ℕ, List, [], ◌∷◌, ◌++◌}
+use Rattle.ciborium_ll_grammar.specs.declared.spelling.Spelling.{Spelling}
 use Rattle.cbor_copier.specs.declared.copier.Copier.{Copier}
 use Rattle.cbor_copier.specs.Copying as copy
 use Rattle.cbor_copier.specs.Spots.{Spot as Elements, putting}
@@ -26,12 +27,12 @@ abbrev pub AreTaken : Phase → List ℕ → List ℕ → Type 0
 AreTaken (p.Faulted fault) fed bytes = (byte : ℕ) × (fed ≡ bytes ++ byte ∷ [])
 AreTaken phase fed bytes = fed ≡ bytes
 
--- `AreFed strict depth fed item elements output`: these bytes came to a copy of one item to the depth. They led a
+-- `AreFed allowed depth fed item elements output`: these bytes came to a copy of one item to the depth. They led a
 -- checker to the spot `item`. The bytes that the checker takes led a copier of elements to the spot `elements`, and put
--- this output out. If not `strict`, `18 01` puts out `01`.
-pub record AreFed (strict : Bool) (depth : ℕ) (fed : List ℕ) (item : Spot) (elements : Elements) (output : List ℕ)
+-- this output out. If any spelling is allowed, `18 01` puts out `01`.
+pub record AreFed (allowed : Spelling) (depth : ℕ) (fed : List ℕ) (item : Spot) (elements : Elements) (output : List ℕ)
     : Type 0 where
-  pub checked : IsFed strict depth fed item
+  pub checked : IsFed allowed depth fed item
   pub bytes : List ℕ
   pub taken : AreTaken item.phase fed bytes
   pub copied : AreElementsFed most bytes elements output
@@ -62,18 +63,18 @@ elements_spot c = putting [] (copy.spot_of c.copier)
 
 -- The bytes `fed` came to a copy of one item to the depth, and the bytes `given` were written: all that was put out
 -- except for the pending bytes. After `82 01` with room for one byte, `given` is `82`.
-abbrev pub IsItemCopied : Bool → ℕ → List ℕ → List ℕ → ItemCopier → Type 0
-IsItemCopied strict depth fed given c = AreFed strict depth fed (item_spot c) (elements_spot c) (given ++ pending c)
+abbrev pub IsItemCopied : Spelling → ℕ → List ℕ → List ℕ → ItemCopier → Type 0
+IsItemCopied allowed depth fed given c = AreFed allowed depth fed (item_spot c) (elements_spot c) (given ++ pending c)
 
 -- ---- in the words of the grammar
 
--- `HasCopied strict depth read written copier`: the copier has read exactly the bytes `read` for an item to the depth,
--- and if `strict` in its shortest spelling. It has written exactly the bytes `written` (RFC 7049, 2.1 to 2.4 and 3.9).
--- If not `strict`, a copier that took `82 18 01` has read these, and has written `82 01` if there was room. A caller
--- needs no more of this word: `new` and `feed` say when it holds, and `Tells` says what follows for the bytes. How a
--- copier keeps what it has read is its own.
-unfoldable pub HasCopied : Bool → ℕ → List ℕ → List ℕ → ItemCopier → Type 0
-HasCopied strict depth read written copier = IsItemCopied strict depth read written copier
+-- `HasCopied allowed depth read written copier`: the copier has read exactly the bytes `read` for an item to the depth,
+-- and for `Shortest` in its shortest spelling. It has written exactly the bytes `written` (RFC 7049, 2.1 to 2.4 and
+-- 3.9). If any spelling is allowed, a copier that took `82 18 01` has read these, and has written `82 01` if there was
+-- room. A caller needs no more of this word: `new` and `feed` say when it holds, and `Tells` says what follows for the
+-- bytes. How a copier keeps what it has read is its own.
+unfoldable pub HasCopied : Spelling → ℕ → List ℕ → List ℕ → ItemCopier → Type 0
+HasCopied allowed depth read written copier = IsItemCopied allowed depth read written copier
 
 -- The copier's answer, with the number that is due or the place of a fault: `More 1` after `82 01`, and `Room` if some
 -- of it is pending. The law `one_answer` says that the bytes decide it.

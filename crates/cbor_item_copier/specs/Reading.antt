@@ -1,6 +1,7 @@
 -- The meaning of the answers of a copier of an item for the bytes that it has read and for those that it has written,
 -- in the words of the grammar (RFC 7049, 2.1 to 2.4 and 3.9).
-use Rattle.std.specs.Prelude.{◌≡◌, ℕ, ◌<◌, ◌≤◌, ◌⊎◌, Bool, List, [], ◌∷◌, ◌++◌, length, take}
+use Rattle.std.specs.Prelude.{◌≡◌, ℕ, ◌<◌, ◌≤◌, ◌⊎◌, List, [], ◌∷◌, ◌++◌, length, take}
+use Rattle.ciborium_ll_grammar.specs.declared.spelling.Spelling.{Spelling}
 use Rattle.ciborium_ll_grammar.specs.Faults.{Short}
 use Rattle.cbor_copier.specs.Reading.{AreSpelled, ComesTo}
 use Rattle.cbor_checker.specs.declared.progress.Progress.TheVariants as f
@@ -30,39 +31,39 @@ pub record IsCutBefore (bytes output : List ℕ) : Type 0 where
 -- The meaning of a checker's answer, and of the output. All that can be put out of a part of an item was put out. A
 -- whole item was put out in its shortest spelling (RFC 7049, 3.9). If no item begins with the bytes, the output is that
 -- of the bytes before the last byte. For `82 ff` it is `82`, with a fault.
-abbrev pub TellsWhole : Bool → ℕ → List ℕ → List ℕ → Progress → Type 0
-TellsWhole strict depth bytes output (r.More due) =
-    reads.Tells strict depth bytes (f.More due) × IsCutCopy bytes output
-TellsWhole strict depth bytes output r.Room = ⊥
-TellsWhole strict depth bytes output (r.Ended len) =
-    reads.Tells strict depth bytes (f.Ended len) × IsSpelled bytes output
-TellsWhole strict depth bytes output (r.Fault fault) =
-    reads.Tells strict depth bytes (f.Fault fault) × IsCutBefore bytes output
-TellsWhole strict depth bytes output r.TooLong = reads.Tells strict depth bytes f.TooLong × IsCutCopy bytes output
+abbrev pub TellsWhole : Spelling → ℕ → List ℕ → List ℕ → Progress → Type 0
+TellsWhole allowed depth bytes output (r.More due) =
+    reads.Tells allowed depth bytes (f.More due) × IsCutCopy bytes output
+TellsWhole allowed depth bytes output r.Room = ⊥
+TellsWhole allowed depth bytes output (r.Ended len) =
+    reads.Tells allowed depth bytes (f.Ended len) × IsSpelled bytes output
+TellsWhole allowed depth bytes output (r.Fault fault) =
+    reads.Tells allowed depth bytes (f.Fault fault) × IsCutBefore bytes output
+TellsWhole allowed depth bytes output r.TooLong = reads.Tells allowed depth bytes f.TooLong × IsCutCopy bytes output
 
 -- The output and then some pending bytes have one of these meanings. For `82 01 02` the output may be `82 01`, and then
 -- `02` is pending.
-pub record LacksRoom (strict : Bool) (depth : ℕ) (bytes output : List ℕ) : Type 0 where
+pub record LacksRoom (allowed : Spelling) (depth : ℕ) (bytes output : List ℕ) : Type 0 where
   pub pending : List ℕ
   pub some : 0 < length pending
   pub progress : Progress
-  pub told : TellsWhole strict depth bytes (output ++ pending) progress
+  pub told : TellsWhole allowed depth bytes (output ++ pending) progress
 
 -- The meaning of an answer. There is room for all that is put out, unless the answer is that there is none. `82 01 02`
 -- with the output `82 01` gets `Room`, and with `82 01 02` it gets `Ended 3`.
-abbrev pub Tells : Bool → ℕ → List ℕ → List ℕ → Progress → Type 0
-Tells strict depth bytes output r.Room = LacksRoom strict depth bytes output
-Tells strict depth bytes output progress = TellsWhole strict depth bytes output progress
+abbrev pub Tells : Spelling → ℕ → List ℕ → List ℕ → Progress → Type 0
+Tells allowed depth bytes output r.Room = LacksRoom allowed depth bytes output
+Tells allowed depth bytes output progress = TellsWhole allowed depth bytes output progress
 
 -- The meaning of an end of the bytes. `Between`: no byte came, or the bytes are an item and all of it is written.
 -- `Short`: the bytes are a part of an item. `82 01` with the same output gets `Short 1`.
-abbrev pub TellsEnd : Bool → ℕ → List ℕ → List ℕ → End → Type 0
-TellsEnd strict depth bytes output e.Between =
-    ((bytes ≡ []) × (output ≡ [])) ⊎ (reads.Tells strict depth bytes (f.Ended (length bytes)) × IsSpelled bytes output)
-TellsEnd strict depth bytes output (e.Short due) =
-    (0 < length bytes) × Tells strict depth bytes output (r.More due)
-TellsEnd strict depth bytes output e.Room = LacksRoom strict depth bytes output
-TellsEnd strict depth bytes output (e.Fault fault) = Tells strict depth bytes output (r.Fault fault)
+abbrev pub TellsEnd : Spelling → ℕ → List ℕ → List ℕ → End → Type 0
+TellsEnd allowed depth bytes output e.Between =
+    ((bytes ≡ []) × (output ≡ [])) ⊎ (reads.Tells allowed depth bytes (f.Ended (length bytes)) × IsSpelled bytes output)
+TellsEnd allowed depth bytes output (e.Short due) =
+    (0 < length bytes) × Tells allowed depth bytes output (r.More due)
+TellsEnd allowed depth bytes output e.Room = LacksRoom allowed depth bytes output
+TellsEnd allowed depth bytes output (e.Fault fault) = Tells allowed depth bytes output (r.Fault fault)
 
 -- ---- the kinds of answers
 
@@ -96,11 +97,11 @@ IsLast progress = IsEnd progress ⊎ IsFault progress
 -- A copier that has read some bytes and written some reads a piece, writes `put`, and answers so (RFC 7049, 2.1 to 2.4
 -- and 3.9). `goes`: it takes a byte only if an item goes on after all bytes before it. So an end or a fault comes with
 -- the first byte that shows it, and no byte is taken after that one. `all`: it takes all bytes if more are due. `long`:
--- it leaves a byte that it can't count. If not `strict`, after `18` it takes one byte of `17 01`, writes `17`, and
--- answers `Ended 2`.
-pub record Copies (strict : Bool) (depth : ℕ) (read written piece put : List ℕ) (copied : Copied) : Type 0 where
+-- it leaves a byte that it can't count. If any spelling is allowed, after `18` it takes one byte of `17 01`, writes
+-- `17`, and answers `Ended 2`.
+pub record Copies (allowed : Spelling) (depth : ℕ) (read written piece put : List ℕ) (copied : Copied) : Type 0 where
   pub taken : copied.taken ≤ length piece
-  pub goes : (len : ℕ) → len < copied.taken → reads.GoesOn strict depth (read ++ take len piece)
+  pub goes : (len : ℕ) → len < copied.taken → reads.GoesOn allowed depth (read ++ take len piece)
   pub all : IsMore copied.progress → copied.taken ≡ length piece
   pub long : copied.progress ≡ r.TooLong → copied.taken < length piece
-  pub tells : Tells strict depth (read ++ take copied.taken piece) (written ++ put) copied.progress
+  pub tells : Tells allowed depth (read ++ take copied.taken piece) (written ++ put) copied.progress

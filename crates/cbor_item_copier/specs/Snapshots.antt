@@ -1,5 +1,6 @@
 -- The state of a copier of an item, as plain numbers that a caller keeps in its own memory.
-use Rattle.std.specs.Prelude.{Bool, ℕ, List, [], ◌++◌}
+use Rattle.std.specs.Prelude.{ℕ, List, [], ◌++◌}
+use Rattle.ciborium_ll_grammar.specs.declared.spelling.Spelling.{Spelling}
 use Rattle.cbor_copier.specs.Copying as copy
 use Rattle.cbor_copier.specs.Snapshots as copies
 use Rattle.cbor_copier.specs.Spots.{Spot as Elements, putting}
@@ -23,9 +24,10 @@ pub record Holds (snapshot : Snapshot) (item : Spot) (elements : Elements) : Typ
 
 -- The plain numbers are those of a copier that has read and written exactly these bytes, as in `HasCopied`. Numbers
 -- that a copier wrote after `82 01` keep `82 01`. How they keep it is their own.
-unfoldable pub Keeps : Bool → ℕ → List ℕ → List ℕ → Snapshot → Type 0
-Keeps strict depth read written snapshot =
-    (item : Spot) × (elements : Elements) × AreFed strict depth read item (putting [] elements) (written ++ elements.put)
+unfoldable pub Keeps : Spelling → ℕ → List ℕ → List ℕ → Snapshot → Type 0
+Keeps allowed depth read written snapshot =
+    (item : Spot) × (elements : Elements)
+    × AreFed allowed depth read item (putting [] elements) (written ++ elements.put)
     × Holds snapshot item elements
 
 -- The plain numbers are those of this copier. The numbers that a copier wrote after `82 01` are those of a copier that

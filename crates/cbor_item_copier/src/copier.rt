@@ -2,6 +2,8 @@
 
 ghost use Rattle.std.specs.Prelude.{◌≡◌, ◌≢◌, ◌+◌, ◌<◌, ◌≤◌, ◌^◌, ◌⊎◌, ◌++◌, Bool, ℕ, List, [], length, take, drop};
 ghost use Rattle.std.specs.Prelude.{true, false};
+ghost use Rattle.ciborium_ll_grammar.specs.declared.spelling.Spelling.{Spelling};
+ghost use Rattle.ciborium_ll_grammar.specs.declared.spelling.Spelling.TheVariants.{Any, Shortest};
 ghost use Rattle.ciborium_ll_grammar.specs.Title.{AreBytes};
 ghost use Rattle.cbor_copier.specs.Copying.{HasCopied};
 ghost use Rattle.cbor_copier.specs.Reading.{NoneGoOn};
@@ -39,10 +41,10 @@ fn check(checker: &mut Checker, bytes: &[u8]) -> usize
     requires some { 0 < length bytes.now }
     requires due { is_due (spot_of checker.old).phase ≡ true }
     ensures within { result ≤ length bytes.now }
-    ensures taken { (strict : Bool) (depth : ℕ) (fed : List ℕ) → IsFed strict depth fed (spot_of checker.old)
-        → IsFed strict depth (fed ++ take result bytes.now) (spot_of checker.new) × (length fed + result ≤ most) }
-    ensures none { (strict : Bool) (depth : ℕ) (fed : List ℕ) → IsFed strict depth fed (spot_of checker.old)
-        → result ≡ 0 → IsFed strict depth fed (spot_of checker.new) × (length fed + 1 ≡ 2 ^ 64) }
+    ensures taken { (allowed : Spelling) (depth : ℕ) (fed : List ℕ) → IsFed allowed depth fed (spot_of checker.old)
+        → IsFed allowed depth (fed ++ take result bytes.now) (spot_of checker.new) × (length fed + result ≤ most) }
+    ensures none { (allowed : Spelling) (depth : ℕ) (fed : List ℕ) → IsFed allowed depth fed (spot_of checker.old)
+        → result ≡ 0 → IsFed allowed depth fed (spot_of checker.new) × (length fed + 1 ≡ 2 ^ 64) }
 {
     checker.feed(bytes).taken
 }
@@ -100,13 +102,12 @@ impl ItemCopier {
     ghost use Rattle.cbor_item_copier.specs.declared.progress.Progress.TheVariants as r;
     ghost use Rattle.cbor_item_copier.specs.Reading.{Copies, IsLast, IsMore, IsRoom, Tells, TellsEnd};
     ghost use Rattle.cbor_item_copier.specs.Telling.{IsAnswer, progress_of};
-    ghost use Rattle.ciborium_ll_grammar.specs.Spellings.{is_shortest};
     ghost use Rattle.ciborium_ll_grammar.specs.declared.limits.TheConstants.{MOST_LEVELS};
 
     /// Makes a copier of one item, which has read no byte and written none, with the `depth` of [`Checker::new`].
     pub fn new(depth: usize) -> ItemCopier
         requires { depth ≤ MOST_LEVELS }
-        ensures { HasItemCopied false depth [] [] result }
+        ensures { HasItemCopied Any depth [] [] result }
     {
         ItemCopier::with_spelling(depth, Spelling::Any)
     }
@@ -115,7 +116,7 @@ impl ItemCopier {
     /// the faults of [`Checker::strict`].
     pub fn strict(depth: usize) -> ItemCopier
         requires { depth ≤ MOST_LEVELS }
-        ensures { HasItemCopied true depth [] [] result }
+        ensures { HasItemCopied Shortest depth [] [] result }
     {
         ItemCopier::with_spelling(depth, Spelling::Shortest)
     }
@@ -123,7 +124,7 @@ impl ItemCopier {
     /// Makes the copier of [`ItemCopier::new`] for `Any`, and that of [`ItemCopier::strict`] for `Shortest`.
     pub fn with_spelling(depth: usize, spelling: Spelling) -> ItemCopier
         requires { depth ≤ MOST_LEVELS }
-        ensures { HasItemCopied (is_shortest spelling) depth [] [] result }
+        ensures { HasItemCopied spelling depth [] [] result }
     {
         ItemCopier {
             checker: Checker::with_spelling(depth, spelling),
@@ -134,8 +135,9 @@ impl ItemCopier {
     /// Returns the answer, by the states.
     fn answer(&self) -> Progress
         ensures answers { result ≡ progress_of (pending self.now) (item_spot self.now) }
-        ensures tells { (strict : Bool) (depth : ℕ) (fed given : List ℕ) → IsItemCopied strict depth fed given self.now
-            → Tells strict depth fed given result }
+        ensures tells { (allowed : Spelling) (depth : ℕ) (fed given : List ℕ) → IsItemCopied allowed depth fed given
+            self.now
+            → Tells allowed depth fed given result }
     {
         if lacks_room(&self.copier) {
             return Progress::Room;
@@ -151,8 +153,8 @@ impl ItemCopier {
     /// Returns the last answer of [`ItemCopier::feed`], or `More(1)` before the first piece. After a `TooLong` it
     /// returns `More`.
     pub fn progress(&self) -> Progress
-        ensures tells { (strict : Bool) (depth : ℕ) (read written : List ℕ)
-            → HasItemCopied strict depth read written self.now → Tells strict depth read written result }
+        ensures tells { (allowed : Spelling) (depth : ℕ) (read written : List ℕ)
+            → HasItemCopied allowed depth read written self.now → Tells allowed depth read written result }
         ensures is { Answers self.now result }
         ensures long { result ≡ r.TooLong → ⊥ }
     {
@@ -161,8 +163,8 @@ impl ItemCopier {
 
     /// Returns how the copy stands if no more bytes come.
     pub fn end(&self) -> End
-        ensures tells { (strict : Bool) (depth : ℕ) (read written : List ℕ)
-            → HasItemCopied strict depth read written self.now → TellsEnd strict depth read written result }
+        ensures tells { (allowed : Spelling) (depth : ℕ) (read written : List ℕ)
+            → HasItemCopied allowed depth read written self.now → TellsEnd allowed depth read written result }
         ensures is { AnswersEnd self.now result }
     {
         if lacks_room(&self.copier) {
@@ -181,9 +183,9 @@ impl ItemCopier {
         ensures kept { drop result out.new ≡ drop result out.old }
         ensures full { (pending self.new ≡ []) ⊎ (result ≡ length out.old) }
         ensures grown { result + held self.new ≤ held self.old }
-        ensures copied { (strict : Bool) (depth : ℕ) (fed given : List ℕ)
-            → IsItemCopied strict depth fed given self.old
-            → IsItemCopied strict depth fed (given ++ take result out.new) self.new }
+        ensures copied { (allowed : Spelling) (depth : ℕ) (fed given : List ℕ)
+            → IsItemCopied allowed depth fed given self.old
+            → IsItemCopied allowed depth fed (given ++ take result out.new) self.new }
         ensures none { pending self.old ≡ [] → (result ≡ 0) × (self.new ≡ self.old) }
     {
         if !lacks_room(&self.copier) {
@@ -234,17 +236,19 @@ impl ItemCopier {
         ensures taken { result.taken ≤ length bytes.now }
         ensures written { result.written ≤ length out.old }
         ensures kept { drop result.written out.new ≡ drop result.written out.old }
-        ensures copied { (strict : Bool) (depth : ℕ) (fed given : List ℕ)
-            → IsItemCopied strict depth fed given self.old
-            → IsItemCopied strict depth (fed ++ take result.taken bytes.now) (given ++ take result.written out.new)
+        ensures copied { (allowed : Spelling) (depth : ℕ) (fed given : List ℕ)
+            → IsItemCopied allowed depth fed given self.old
+            → IsItemCopied allowed depth (fed ++ take result.taken bytes.now) (given ++ take result.written out.new)
             self.new }
-        ensures tells { (strict : Bool) (depth : ℕ) (fed given : List ℕ) → IsItemCopied strict depth fed given self.old
-            → Tells strict depth (fed ++ take result.taken bytes.now) (given ++ take result.written out.new)
+        ensures tells { (allowed : Spelling) (depth : ℕ) (fed given : List ℕ) → IsItemCopied allowed depth fed given
+            self.old
+            → Tells allowed depth (fed ++ take result.taken bytes.now) (given ++ take result.written out.new)
             result.progress }
         ensures answers { IsAnswer result.progress (pending self.new) (item_spot self.new) }
         ensures all { IsMore result.progress → result.taken ≡ length bytes.now }
         ensures long { result.progress ≡ r.TooLong → result.taken < length bytes.now }
-        ensures cut { (strict : Bool) (depth : ℕ) (fed given : List ℕ) → IsItemCopied strict depth fed given self.old
+        ensures cut { (allowed : Spelling) (depth : ℕ) (fed given : List ℕ) → IsItemCopied allowed depth fed given
+            self.old
             → result.progress ≡ r.TooLong → is_due (item_spot self.new).phase ≡ true }
         ensures full { IsRoom result.progress → result.written ≡ length out.old }
         ensures fits { pending self.old ≡ [] → length bytes.now + 8 ≤ length out.old → IsRoom result.progress → ⊥ }
@@ -297,11 +301,11 @@ impl ItemCopier {
     ///   of the bytes before it is written.
     #[inline(always)]
     pub fn feed(&mut self, bytes: &[u8], out: &mut [u8]) -> Copied
-        ensures read { (strict : Bool) (depth : ℕ) (read written : List ℕ)
-            → HasItemCopied strict depth read written self.old
-            → HasItemCopied strict depth (read ++ take result.taken bytes.now)
+        ensures read { (allowed : Spelling) (depth : ℕ) (read written : List ℕ)
+            → HasItemCopied allowed depth read written self.old
+            → HasItemCopied allowed depth (read ++ take result.taken bytes.now)
             (written ++ take result.written out.new) self.new
-            × Copies strict depth read written bytes.now (take result.written out.new) result }
+            × Copies allowed depth read written bytes.now (take result.written out.new) result }
         ensures is { AnswersPiece self.new result.progress }
         ensures taken { result.taken ≤ length bytes.now }
         ensures written { result.written ≤ length out.old }
@@ -320,8 +324,8 @@ impl ItemCopier {
 
     /// Writes the state into `snapshot` as plain numbers, for [`ItemCopier::load`] and [`ItemCopier::restore`].
     pub fn save(&self, snapshot: &mut Snapshot)
-        ensures keeps { (strict : Bool) (depth : ℕ) (read written : List ℕ)
-            → HasItemCopied strict depth read written self.now → Keeps strict depth read written snapshot.new }
+        ensures keeps { (allowed : Spelling) (depth : ℕ) (read written : List ℕ)
+            → HasItemCopied allowed depth read written self.now → Keeps allowed depth read written snapshot.new }
         ensures saves { Saves self.now snapshot.new }
         ensures spare { snapshot.new.copier.spare ≡ 0 }
     {
@@ -332,9 +336,9 @@ impl ItemCopier {
     /// Becomes the copier that [`ItemCopier::save`] wrote, and returns whether there is one.
     #[inline(always)]
     pub fn load(&mut self, snapshot: &Snapshot) -> bool
-        ensures kept { (strict : Bool) (depth : ℕ) (read written : List ℕ)
-            → Keeps strict depth read written snapshot.now
-            → (result ≡ true) × HasItemCopied strict depth read written self.new }
+        ensures kept { (allowed : Spelling) (depth : ℕ) (read written : List ℕ)
+            → Keeps allowed depth read written snapshot.now
+            → (result ≡ true) × HasItemCopied allowed depth read written self.new }
         ensures some { result ≡ true → Saves self.new snapshot.now }
         ensures found { HoldsSome snapshot.now → result ≡ true }
         ensures none { result ≡ false → self.new ≡ self.old }
@@ -351,9 +355,9 @@ impl ItemCopier {
 
     /// Returns the copier that [`ItemCopier::save`] wrote, or `None` if [`ItemCopier::load`] finds none.
     pub fn restore(snapshot: &Snapshot) -> Option<ItemCopier>
-        ensures kept { (strict : Bool) (depth : ℕ) (read written : List ℕ)
-            → Keeps strict depth read written snapshot.now
-            → IsSomeAnd result (λ copier. HasItemCopied strict depth read written copier) }
+        ensures kept { (allowed : Spelling) (depth : ℕ) (read written : List ℕ)
+            → Keeps allowed depth read written snapshot.now
+            → IsSomeAnd result (λ copier. HasItemCopied allowed depth read written copier) }
         ensures some { IfSome result (λ copier. Saves copier snapshot.now) }
         ensures found { HoldsSome snapshot.now → IsSome result }
     {

@@ -1,6 +1,7 @@
 -- The copy of the bodies of a string, one after the other.
-use Rattle.std.proofs.Common.{◌≡◌, Bool, ℕ, List, [], ◌∷◌, ◌++◌, Option, Some, None, Result, Ok, Err, sym, arith}
+use Rattle.std.proofs.Common.{◌≡◌, ℕ, List, [], ◌∷◌, ◌++◌, Option, Some, None, Result, Ok, Err, sym, arith}
 use Rattle.std.proofs.Common.{append_assoc, append-nil, length-append}
+use Rattle.ciborium_ll_grammar.specs.declared.spelling.Spelling.{Spelling}
 use Rattle.ciborium_ll.specs.Types.Read.{Ghosts as Reader}
 use Rattle.ciborium_ll.specs.Types.Write.{Ghosts as Writer}
 use Rattle.ciborium_ll.specs.Types.Decoder.{Decoder}
@@ -59,17 +60,17 @@ module _ {R E W F : Type 0} (source : Reader R E) (sink : Writer W F) (k : Kind)
   }
 
 module _ {R E W F : Type 0} {source : Reader R E} {sink : Writer W F} {k : Kind} {len : Option ℕ} {opened : Decoder R}
-    {w w' : W} {progress : Progress} {now : Decoder R} (strict : Bool)
+    {w w' : W} {progress : Progress} {now : Decoder R} (allowed : Spelling)
     (so_far : CopiedFar source sink k len opened w progress now w') (new : Decoder R)
     (steady : IsSteady source now → IsSteady source new) (progress' : Progress) (room : ℕ) where
   abbrev Copies : Result (Unit {0}) (RecodeError E F) → Sides R W → Type 0
   Copies result ended = CopiesContent source sink k len (λ bytes. bytes) room (sides opened w) result ended
 
   -- If the string has ended, its bodies were copied.
-  pub content_ended : AdvancesTo source k strict progress now (Ok None) progress' new
+  pub content_ended : AdvancesTo source k allowed progress now (Ok None) progress' new
       → Copies (Ok (tt {0})) (sides new w')
   content_ended advances =
-      let whole = read_whole source k strict _ opened now new so_far.bodies progress progress' steady len so_far.far
+      let whole = read_whole source k allowed _ opened now new so_far.bodies progress progress' steady len so_far.far
       advances in
       record {
         reads = record {
@@ -83,23 +84,23 @@ module _ {R E W F : Type 0} {source : Reader R E} {sink : Writer W F} {k : Kind}
       }
 
   -- If no title came, the copy stops there.
-  pub content_fails : (error : Error E) → AdvancesTo source k strict progress now (Err error) progress' new
+  pub content_fails : (error : Error E) → AdvancesTo source k allowed progress now (Err error) progress' new
       → Copies (Err (r.Read error)) (sides new w')
   content_fails error advances =
-      let none = untitled k strict progress' steady len error so_far.far advances in
+      let none = untitled k allowed progress' steady len error so_far.far advances in
       at_title none.1 so_far.bodies none.0 none.2 none.3 so_far.written none.4
 
-  module _ (body : Body) (advances : AdvancesTo source k strict progress now (Ok (Some body)) progress' new) where
+  module _ (body : Body) (advances : AdvancesTo source k allowed progress now (Ok (Some body)) progress' new) where
     -- If the copy of a body stops, the copy of the string does.
     pub content_stops : (error : RecodeError E F) (ended : Sides R W)
         → CopiesBody source sink k body.length room body.place (sides new w') (Err error) ended
         → Copies (Err error) ended
     content_stops (r.Read error) ended stops =
-        let here = titled k strict progress' steady len body so_far.far advances in
+        let here = titled k allowed progress' steady len body so_far.far advances in
         in_body here.0 so_far.bodies body.length body.place new here.1 here.2 stops.ends
         (wrote_both so_far.written stops.written)
     content_stops (r.Write fault) ended stops =
-        let here = titled k strict progress' steady len body so_far.far advances in
+        let here = titled k allowed progress' steady len body so_far.far advances in
         record {
           behind = here.0;
           bodies = so_far.bodies;
@@ -124,7 +125,7 @@ module _ {R E W F : Type 0} {source : Reader R E} {sink : Writer W F} {k : Kind}
         let read = copied.ends.read in
         record {
           bodies = so_far.bodies ++ read ∷ [];
-          far = read_more source k strict _ opened now new so_far.bodies progress progress' steady len body ended
+          far = read_more source k allowed _ opened now new so_far.bodies progress progress' steady len body ended
               so_far.far advances copied.ends;
           written = rw (joined-push so_far.bodies read) (wrote_both so_far.written copied.written);
         }

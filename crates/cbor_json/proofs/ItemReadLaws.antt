@@ -1,5 +1,6 @@
 -- The write of an item after its header, compared with a read of the item.
 use Rattle.std.proofs.Common.{◌≡◌, ℕ, suc, Bool, [], Option, Result, Err, IfErr, inr, arith}
+use Rattle.ciborium_ll_grammar.specs.declared.spelling.Spelling.{Spelling}
 use Rattle.ciborium_ll.specs.Types.Read.{Ghosts}
 use Rattle.ciborium_ll.specs.Types.Header.{Header}
 use Rattle.ciborium_ll.specs.Types.Decoder.{Decoder}
@@ -8,7 +9,7 @@ use Rattle.ciborium_ll.specs.Items.{Completes, float, negative, positive, simple
 use Rattle.ciborium_ll.specs.Decoding.{IsSteady, PullsTitle}
 use Rattle.ciborium_ll.specs.Skipping.{SkipsString}
 use Rattle.cbor_skip.specs.declared.SkipError.{SkipError}
-use Rattle.cbor_skip.specs.Skipping.{ReadsWithin, SkipsWithin, strictness}
+use Rattle.cbor_skip.specs.Skipping.{ReadsWithin, SkipsWithin, allowed_by}
 use Rattle.cbor_skip.proofs.ItemSteps.{reads_plain, reads_string, reads_nest, stops_here, stops_nest}
 use Rattle.cbor_diag.specs.Showing.{ReadsFrom}
 use Rattle.cbor_json.specs.declared.JsonError.{JsonError}
@@ -17,8 +18,9 @@ use Rattle.cbor_json.specs.Roles.{IsScalar}
 use Rattle.cbor_json.proofs.ReadingLaws.{reading_whole, reading_stops, reading_string}
 
 -- The header of a number or a simple value completes an item.
-scalar_completes : (strict : Bool) (depth : ℕ) (header : Header) → IsScalar header → Completes strict depth header []
-scalar_completes strict depth header is = grind (arith, float, negative, positive, simple)
+scalar_completes : (allowed : Spelling) (depth : ℕ) (header : Header) → IsScalar header
+    → Completes allowed depth header []
+scalar_completes allowed depth header is = grind (arith, float, negative, positive, simple)
 
 module _ {R E : Type 0} (source : Ghosts R E) (outer : Bool) (depth : ℕ) (before : Decoder R) where
   -- The read of an item from the decoder before its title, by the answer.
@@ -33,7 +35,7 @@ module _ {R E F : Type 0} (source : Ghosts R E) (outer : Bool) (depth : ℕ) (be
       → OnReading (ItemRead source outer depth before titled) result
   scalar_read header result is pulled writing =
       reading_whole (ItemRead source outer depth before titled) result (reads_plain source pulled steady
-      (scalar_completes (strictness before) depth header is)) writing
+      (scalar_completes (allowed_by before) depth header is)) writing
 
   -- The write of a string reads the item as a skip does.
   pub string_read : (kind : Kind) (len : Option ℕ) (new : Decoder R) (result : Result (Unit {0}) (JsonError E F))

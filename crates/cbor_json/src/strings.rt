@@ -6,8 +6,8 @@ ghost use Rattle.ciborium_ll.specs.Types.Header.TheVariants as Header;
 ghost use Rattle.ciborium_ll.specs.Title.{IsInRange, title_len};
 ghost use Rattle.ciborium_ll.specs.Strings.{Bytes as byte_strings, Text as text_strings, kind_header};
 ghost use Rattle.ciborium_ll.specs.Encoding.{WritesAll, WritesBytes};
-ghost use Rattle.ciborium_ll.specs.Decoding.{MovesOn, TakesBack, offset_of, strict_of, waiting_of};
-ghost use Rattle.ciborium_ll.specs.Segments.{IsAtBeginning, string_decoder, string_reference, string_strict};
+ghost use Rattle.ciborium_ll.specs.Decoding.{MovesOn, TakesBack, offset_of, spelling_of, waiting_of};
+ghost use Rattle.ciborium_ll.specs.Segments.{IsAtBeginning, string_decoder, string_reference, string_spelling};
 ghost use Rattle.ciborium_ll.specs.Skipping.{SkipsString};
 ghost use Rattle.ciborium_ll.specs.Sides.{sides};
 ghost use Rattle.cbor_diag.specs.declared.strings.TheConstants.{BUFFER_SIZE};
@@ -77,7 +77,7 @@ fn write_segments<R: Read, W: Write, P: Chunked>(
     requires kind { IsQuotesOf P.kind quotes }
     ensures reads { (opened : AnyDecoder R) (len : Option ℕ) → IsInRange (kind_header P.kind len)
         → waiting_of opened ≡ None → TakesBack R.Read opened (kind_header P.kind len) (string_decoder segments.old)
-        → string_strict segments.old ≡ strict_of opened
+        → string_spelling segments.old ≡ spelling_of opened
         → OnString (λ answer. SkipsString R.Read P.kind len BUFFER_SIZE opened answer (string_decoder segments.new)) result }
     ensures written { (opened : AnyDecoder R) (len : Option ℕ) (opening : List ℕ) (before : W)
         → IsInRange (kind_header P.kind len) → waiting_of opened ≡ None
@@ -115,7 +115,7 @@ fn copy_quoted<R: Read, W: Write, P: Chunked>(
     requires fresh { IsAtBeginning segments.old }
     ensures reads { (opened : AnyDecoder R) (len : Option ℕ) → IsInRange (kind_header P.kind len)
         → waiting_of opened ≡ None → TakesBack R.Read opened (kind_header P.kind len) (string_decoder segments.old)
-        → string_strict segments.old ≡ strict_of opened
+        → string_spelling segments.old ≡ spelling_of opened
         → OnCopy (λ answer. SkipsString R.Read P.kind len BUFFER_SIZE opened answer (string_decoder segments.new)) result }
     ensures copied { (opened : AnyDecoder R) (len : Option ℕ) → IsInRange (kind_header P.kind len)
         → waiting_of opened ≡ None → TakesBack R.Read opened (kind_header P.kind len) (string_decoder segments.old)
@@ -139,7 +139,7 @@ fn copy_bodies<R: Read, W: Write, P: Chunked>(
     requires fresh { IsAtBeginning segments.old }
     ensures reads { (opened : AnyDecoder R) (len : Option ℕ) → IsInRange (kind_header P.kind len)
         → waiting_of opened ≡ None → TakesBack R.Read opened (kind_header P.kind len) (string_decoder segments.old)
-        → string_strict segments.old ≡ strict_of opened
+        → string_spelling segments.old ≡ spelling_of opened
         → OnCopy (λ answer. SkipsString R.Read P.kind len BUFFER_SIZE opened answer (string_decoder segments.new)) result }
     ensures copied { (opened : AnyDecoder R) (len : Option ℕ) → IsInRange (kind_header P.kind len)
         → waiting_of opened ≡ None → TakesBack R.Read opened (kind_header P.kind len) (string_decoder segments.old)

@@ -1,7 +1,9 @@
 -- Tokens are elements, and the first fault after them is the fault of elements.
-use Rattle.std.proofs.Common.{◌≡◌, ℕ, zero, suc, ◌+◌, ◌≤◌, Bool, true, false, List, [], ◌∷◌, ◌++◌, length}
+use Rattle.std.proofs.Common.{◌≡◌, ℕ, zero, suc, ◌+◌, ◌≤◌, List, [], ◌∷◌, ◌++◌, length}
 use Rattle.std.proofs.Common.{Some, None, drop, take, inl, inr, refl, sym, ap, subst, ◌∙◌, arith}
 use Rattle.std.proofs.Common.{append-nil, append_assoc, length-append}
+use Rattle.ciborium_ll_grammar.specs.declared.spelling.Spelling.{Spelling}
+use Rattle.ciborium_ll_grammar.specs.declared.spelling.Spelling.TheVariants.{Any, Shortest}
 use Rattle.ciborium_ll_grammar.specs.declared.hdr.Header.{Header}
 use Rattle.ciborium_ll_grammar.specs.declared.hdr.Header.TheVariants as h
 use Rattle.std.specs.List.{AllByRecursion}
@@ -38,17 +40,17 @@ within_of Bytes more = w.Bytes more
 within_of Text more = w.Text more
 
 -- If only the shortest spelling is taken, the bytes are the shortest spelling of the marks.
-Spelled : Bool → List ℕ → List Mark → Type 0
-Spelled strict bytes ms = strict ≡ true → (bytes ≡ spelling ms) × AllByRecursion IsNoSmallSimple ms
+Spelled : Spelling → List ℕ → List Mark → Type 0
+Spelled allowed bytes ms = allowed ≡ Shortest → (bytes ≡ spelling ms) × AllByRecursion IsNoSmallSimple ms
 
 -- Where tokens have come to: they are elements, or elements and strings that are open.
-data Stands (strict : Bool) (bytes : List ℕ) (v : Within) : Type 0 where
-  between : {n : ℕ} {ms : List Mark} → IsRun n bytes ms → Spelled strict bytes ms → v ≡ w.Nothing
-      → Stands strict bytes v
+data Stands (allowed : Spelling) (bytes : List ℕ) (v : Within) : Type 0 where
+  between : {n : ℕ} {ms : List Mark} → IsRun n bytes ms → Spelled allowed bytes ms → v ≡ w.Nothing
+      → Stands allowed bytes v
   within : {n : ℕ} {u opens : List ℕ} {ms : List Mark} {bs : List (List ℕ)} (k : Kind) (more : ℕ) → IsRun n u ms
       → IsInsideAt k (suc more) opens bs → AreWritable k bs → bytes ≡ u ++ opens
-      → Spelled strict bytes (ms ++ Open k ∷ pieces k bs) → (strict ≡ true → more ≡ 0) → v ≡ within_of k more
-      → Stands strict bytes v
+      → Spelled allowed bytes (ms ++ Open k ∷ pieces k bs) → (allowed ≡ Shortest → more ≡ 0) → v ≡ within_of k more
+      → Stands allowed bytes v
 
 -- ---- the shortest spelling
 
@@ -57,53 +59,55 @@ all_joined : (ms ns : List Mark) → AllByRecursion IsNoSmallSimple ms → AllBy
 all_joined [] ns a b = b
 all_joined (m ∷ ms) ns a b = (a.0, all_joined ms ns a.1 b)
 
-spelled_add : (strict : Bool) (b piece : List ℕ) (ms ns : List Mark) → Spelled strict b ms → Spelled strict piece ns
-    → Spelled strict (b ++ piece) (ms ++ ns)
+spelled_add : (allowed : Spelling) (b piece : List ℕ) (ms ns : List Mark) → Spelled allowed b ms
+    → Spelled allowed piece ns
+    → Spelled allowed (b ++ piece) (ms ++ ns)
 unfolding Spelled
-spelled_add strict b piece ms ns one other = λ e.
+spelled_add allowed b piece ms ns one other = λ e.
     let o = one e in
     let p = other e in
     (rw (o.0, p.0) (sym (spelling-append ms ns)), all_joined ms ns o.1 p.1)
 
-spelled_same : (strict : Bool) (b d : List ℕ) (ms ns : List Mark) → b ≡ d → ms ≡ ns → Spelled strict b ms
-    → Spelled strict d ns
-spelled_same strict b d ms ns a e spelled =
-    subst (λ (z : List ℕ). Spelled strict z ns) a (subst (λ (l : List Mark). Spelled strict b l) e spelled)
+spelled_same : (allowed : Spelling) (b d : List ℕ) (ms ns : List Mark) → b ≡ d → ms ≡ ns → Spelled allowed b ms
+    → Spelled allowed d ns
+spelled_same allowed b d ms ns a e spelled =
+    subst (λ (z : List ℕ). Spelled allowed z ns) a (subst (λ (l : List Mark). Spelled allowed b l) e spelled)
 
-taken_same : (strict : Bool) (t : List ℕ) (x : Header) → IsTakenTitle strict t x → strict ≡ true
+taken_same : (allowed : Spelling) (t : List ℕ) (x : Header) → IsTakenTitle allowed t x → allowed ≡ Shortest
     → (t ≡ shortest_title x) × (IsSmallSimple x → ⊥)
-taken_same true t x taken e = (taken.shortest, taken.meant)
-taken_same false t x taken e = absurd (cc e)
+taken_same Shortest t x taken e = (taken.shortest, taken.meant)
+taken_same Any t x taken e = absurd (cc e)
 
-spelled_nothing : (strict : Bool) → Spelled strict [] []
+spelled_nothing : (allowed : Spelling) → Spelled allowed [] []
 unfolding Spelled
-spelled_nothing strict e = (refl, tt)
+spelled_nothing allowed e = (refl, tt)
 
-spelled_body : (strict : Bool) (k : Kind) (t y : List ℕ) (n : ℕ) → IsTakenTitle strict t (kind_header k (Some n))
-    → length y ≡ n → Spelled strict (t ++ y) (Whole k y ∷ []) × Spelled strict (t ++ y) (Piece k y ∷ [])
+spelled_body : (allowed : Spelling) (k : Kind) (t y : List ℕ) (n : ℕ) → IsTakenTitle allowed t (kind_header k (Some n))
+    → length y ≡ n → Spelled allowed (t ++ y) (Whole k y ∷ []) × Spelled allowed (t ++ y) (Piece k y ∷ [])
 unfolding Spelled
-spelled_body strict k t y n taken long =
-    let same : strict ≡ true → t ++ y ≡ (shortest_title (kind_header k (Some (length y))) ++ y) ++ [] = λ e.
-    let o = (taken_same strict t (kind_header k (Some n)) taken e).0 in
+spelled_body allowed k t y n taken long =
+    let same : allowed ≡ Shortest → t ++ y ≡ (shortest_title (kind_header k (Some (length y))) ++ y) ++ [] = λ e.
+    let o = (taken_same allowed t (kind_header k (Some n)) taken e).0 in
     ap (λ (z : List ℕ). z ++ y) (o ∙ ap (λ (m : ℕ). shortest_title (kind_header k (Some m))) (sym long))
     ∙ sym (append-nil (shortest_title (kind_header k (Some (length y))) ++ y)) in
     (λ e. (same e, (tt, tt)), λ e. (same e, (tt, tt)))
 
-spelled_open : (strict : Bool) (k : Kind) (t : List ℕ) → IsTakenTitle strict t (kind_header k None)
-    → Spelled strict t (Open k ∷ [])
+spelled_open : (allowed : Spelling) (k : Kind) (t : List ℕ) → IsTakenTitle allowed t (kind_header k None)
+    → Spelled allowed t (Open k ∷ [])
 unfolding Spelled
-spelled_open strict k t taken = λ e.
-    let o = (taken_same strict t (kind_header k None) taken e).0 in
+spelled_open allowed k t taken = λ e.
+    let o = (taken_same allowed t (kind_header k None) taken e).0 in
     (o ∙ sym (append-nil (shortest_title (kind_header k None))), (tt, tt))
 
-spelled_plain : (strict : Bool) (t : List ℕ) (x : Header) → IsTakenTitle strict t x → Spelled strict t (Plain x ∷ [])
+spelled_plain : (allowed : Spelling) (t : List ℕ) (x : Header) → IsTakenTitle allowed t x
+    → Spelled allowed t (Plain x ∷ [])
 unfolding Spelled
-spelled_plain strict t x taken = λ e.
-    let o = taken_same strict t x taken e in (o.0 ∙ sym (append-nil (shortest_title x)), (o.1, tt))
+spelled_plain allowed t x taken = λ e.
+    let o = taken_same allowed t x taken e in (o.0 ∙ sym (append-nil (shortest_title x)), (o.1, tt))
 
-spelled_close : (strict : Bool) → Spelled strict (0xff ∷ []) (Close ∷ [])
+spelled_close : (allowed : Spelling) → Spelled allowed (0xff ∷ []) (Close ∷ [])
 unfolding Spelled
-spelled_close strict e = (refl, (tt, tt))
+spelled_close allowed e = (refl, (tt, tt))
 
 -- ---- one token more
 
@@ -119,42 +123,43 @@ writable_one : (k : Kind) (y : List ℕ) → IsBody (kind_header k None) y → A
 writable_one Bytes y is = (tt, tt)
 writable_one Text y is = (is, tt)
 
-module _ (strict : Bool) where
+module _ (allowed : Spelling) where
   -- A string of a definite length after elements.
-  after_elements : (k : Kind) (c t y : List ℕ) (n : ℕ) (v : Within) → Stands strict c w.Nothing
-      → IsTitle t (kind_header k (Some n)) → IsTakenTitle strict t (kind_header k (Some n)) → length y ≡ n
-      → IsBody (kind_header k None) y → v ≡ w.Nothing → Stands strict (c ++ (t ++ y)) v
+  after_elements : (k : Kind) (c t y : List ℕ) (n : ℕ) (v : Within) → Stands allowed c w.Nothing
+      → IsTitle t (kind_header k (Some n)) → IsTakenTitle allowed t (kind_header k (Some n)) → length y ≡ n
+      → IsBody (kind_header k None) y → v ≡ w.Nothing → Stands allowed (c ++ (t ++ y)) v
   after_elements k c t y n v (between {n = i} {ms = ms} run spelled e) is taken long text to =
       let title : IsTitle t (kind_header k (Some (length y))) =
       subst (λ (m : ℕ). IsTitle t (kind_header k (Some m))) (sym long) is in
       between (add_element i c ms run (t ++ y) _ (string k (definite title) (writable_one k y text)))
-      (spelled_add strict c (t ++ y) ms _ spelled (spelled_body strict k t y n taken long).0) to
+      (spelled_add allowed c (t ++ y) ms _ spelled (spelled_body allowed k t y n taken long).0) to
   after_elements k c t y n v (within Bytes more run i ok e s o e') is taken long text to = absurd (cc e')
   after_elements k c t y n v (within Text more run i ok e s o e') is taken long text to = absurd (cc e')
 
   -- An open after elements.
-  open_elements : (k : Kind) (c t y : List ℕ) (v : Within) → Stands strict c w.Nothing → IsTitle t (kind_header k None)
-      → IsTakenTitle strict t (kind_header k None) → length y ≡ 0 → v ≡ within_of k 0 → Stands strict (c ++ (t ++ y)) v
+  open_elements : (k : Kind) (c t y : List ℕ) (v : Within) → Stands allowed c w.Nothing → IsTitle t (kind_header k None)
+      → IsTakenTitle allowed t (kind_header k None) → length y ≡ 0 → v ≡ within_of k 0
+      → Stands allowed (c ++ (t ++ y)) v
   open_elements k c t y v (between {n = i} {ms = ms} run spelled e) is taken long to =
       within k 0 run (one_open {strings = []} is none) tt (sym (no_body c (t ++ []) y long ∙ rw append-nil refl))
-      (spelled_same strict (c ++ t) _ _ _ (no_body c t y long) refl
-      (spelled_add strict c t ms (Open k ∷ []) spelled (spelled_open strict k t taken)))
+      (spelled_same allowed (c ++ t) _ _ _ (no_body c t y long) refl
+      (spelled_add allowed c t ms (Open k ∷ []) spelled (spelled_open allowed k t taken)))
       (λ e. refl) to
   open_elements k c t y v (within Bytes more run i ok e s o e') is taken long to = absurd (cc e')
   open_elements k c t y v (within Text more run i ok e s o e') is taken long to = absurd (cc e')
 
   -- A title that begins no string, after elements.
-  plain_elements : (c t y : List ℕ) (x : Header) (v : Within) → Stands strict c w.Nothing → IsTitle t x
-      → IsTakenTitle strict t x → IsPlain x → length y ≡ 0 → v ≡ w.Nothing → Stands strict (c ++ (t ++ y)) v
+  plain_elements : (c t y : List ℕ) (x : Header) (v : Within) → Stands allowed c w.Nothing → IsTitle t x
+      → IsTakenTitle allowed t x → IsPlain x → length y ≡ 0 → v ≡ w.Nothing → Stands allowed (c ++ (t ++ y)) v
   plain_elements c t y x v (between {n = i} {ms = ms} run spelled e) is taken no_string long to =
-      subst (λ (z : List ℕ). Stands strict z v) (no_body c t y long)
+      subst (λ (z : List ℕ). Stands allowed z v) (no_body c t y long)
       (between (add_element i c ms run t _ (plain x is no_string))
-      (spelled_add strict c t ms _ spelled (spelled_plain strict t x taken)) to)
+      (spelled_add allowed c t ms _ spelled (spelled_plain allowed t x taken)) to)
   plain_elements c t y x v (within Bytes more run i ok e s o e') is taken no_string long to = absurd (cc e')
   plain_elements c t y x v (within Text more run i ok e s o e') is taken no_string long to = absurd (cc e')
 
 -- The strings that are open within a string of a kind.
-record Inside (strict : Bool) (k : Kind) (more : ℕ) (bytes : List ℕ) : Type 0 where
+record Inside (allowed : Spelling) (k : Kind) (more : ℕ) (bytes : List ℕ) : Type 0 where
   n : ℕ
   u : List ℕ
   opens : List ℕ
@@ -164,14 +169,14 @@ record Inside (strict : Bool) (k : Kind) (more : ℕ) (bytes : List ℕ) : Type 
   at : IsInsideAt k (suc more) opens bs
   ok : AreWritable k bs
   is : bytes ≡ u ++ opens
-  spelled : Spelled strict bytes (ms ++ Open k ∷ pieces k bs)
-  alone : strict ≡ true → more ≡ 0
+  spelled : Spelled allowed bytes (ms ++ Open k ∷ pieces k bs)
+  alone : allowed ≡ Shortest → more ≡ 0
 
-inside_of : (strict : Bool) (k : Kind) (more : ℕ) (c : List ℕ) → Stands strict c (within_of k more)
-    → Inside strict k more c
-inside_of strict Bytes more c (between run spelled e) = absurd (cc e)
-inside_of strict Text more c (between run spelled e) = absurd (cc e)
-inside_of strict Bytes more c
+inside_of : (allowed : Spelling) (k : Kind) (more : ℕ) (c : List ℕ) → Stands allowed c (within_of k more)
+    → Inside allowed k more c
+inside_of allowed Bytes more c (between run spelled e) = absurd (cc e)
+inside_of allowed Text more c (between run spelled e) = absurd (cc e)
+inside_of allowed Bytes more c
     (within {n = n} {u = u} {opens = o} {ms = ms} {bs = bs} Bytes m run i ok e spelled alone e') =
     let same : m ≡ more = cc e' in
     record {
@@ -187,7 +192,7 @@ inside_of strict Bytes more c
       spelled = spelled;
       alone = λ yes. sym same ∙ alone yes;
     }
-inside_of strict Text more c
+inside_of allowed Text more c
     (within {n = n} {u = u} {opens = o} {ms = ms} {bs = bs} Text m run i ok e spelled alone e') =
     let same : m ≡ more = cc e' in
     record {
@@ -203,8 +208,8 @@ inside_of strict Text more c
       spelled = spelled;
       alone = λ yes. sym same ∙ alone yes;
     }
-inside_of strict Bytes more c (within Text m run i ok e spelled alone e') = absurd (cc e')
-inside_of strict Text more c (within Bytes m run i ok e spelled alone e') = absurd (cc e')
+inside_of allowed Bytes more c (within Text m run i ok e spelled alone e') = absurd (cc e')
+inside_of allowed Text more c (within Bytes m run i ok e spelled alone e') = absurd (cc e')
 
 -- Marks of one more piece.
 one_piece : (k : Kind) (ms : List Mark) (bs : List (List ℕ)) (y : List ℕ)
@@ -213,66 +218,66 @@ one_piece k ms bs y =
     append_assoc ms (Open k ∷ pieces k bs) (Piece k y ∷ [])
     ∙ ap (λ (l : List Mark). ms ++ Open k ∷ l) (sym (pieces-append k bs (y ∷ [])))
 
-not_spelled : (strict : Bool) (b : List ℕ) (ms : List Mark) → (strict ≡ true → ⊥) → Spelled strict b ms
+not_spelled : (allowed : Spelling) (b : List ℕ) (ms : List Mark) → (allowed ≡ Shortest → ⊥) → Spelled allowed b ms
 unfolding Spelled
-not_spelled strict b ms any = λ e. absurd (any e)
+not_spelled allowed b ms any = λ e. absurd (any e)
 
-not_true : false ≡ true → ⊥
-not_true e = cc e
+not_shortest : Any ≡ Shortest → ⊥
+not_shortest e = cc e
 
-module _ (strict : Bool) where
+module _ (allowed : Spelling) where
   -- A string of a definite length within strings.
-  string_within : (k : Kind) (more : ℕ) (c t y : List ℕ) (n : ℕ) (v : Within) → Stands strict c (within_of k more)
-      → IsTitle t (kind_header k (Some n)) → IsTakenTitle strict t (kind_header k (Some n)) → length y ≡ n
-      → IsBody (kind_header k None) y → v ≡ within_of k more → Stands strict (c ++ (t ++ y)) v
+  string_within : (k : Kind) (more : ℕ) (c t y : List ℕ) (n : ℕ) (v : Within) → Stands allowed c (within_of k more)
+      → IsTitle t (kind_header k (Some n)) → IsTakenTitle allowed t (kind_header k (Some n)) → length y ≡ n
+      → IsBody (kind_header k None) y → v ≡ within_of k more → Stands allowed (c ++ (t ++ y)) v
   string_within k more c t y n v stands is taken long text to =
-      let o = inside_of strict k more c stands in
+      let o = inside_of allowed k more c stands in
       let title : IsTitle t (kind_header k (Some (length y))) =
       subst (λ (m : ℕ). IsTitle t (kind_header k (Some m))) (sym long) is in
       within k more o.run (add_string k (suc more) o.opens (t ++ y) o.bs _ o.at (definite title))
       (AreWritable-append k o.bs (y ∷ []) o.ok (writable_one k y text))
       (ap (λ (z : List ℕ). z ++ (t ++ y)) o.is ∙ append_assoc o.u o.opens (t ++ y))
-      (spelled_same strict _ _ _ _ refl (one_piece k o.ms o.bs y)
-      (spelled_add strict c (t ++ y) _ _ o.spelled (spelled_body strict k t y n taken long).1))
+      (spelled_same allowed _ _ _ _ refl (one_piece k o.ms o.bs y)
+      (spelled_add allowed c (t ++ y) _ _ o.spelled (spelled_body allowed k t y n taken long).1))
       o.alone to
 
   -- An open within strings, unless only the shortest spelling is taken.
-  open_within : (k : Kind) (more : ℕ) (c t y : List ℕ) (v : Within) → (strict ≡ true → ⊥)
-      → Stands strict c (within_of k more) → IsTitle t (kind_header k None) → length y ≡ 0 → v ≡ within_of k (suc more)
-      → Stands strict (c ++ (t ++ y)) v
+  open_within : (k : Kind) (more : ℕ) (c t y : List ℕ) (v : Within) → (allowed ≡ Shortest → ⊥)
+      → Stands allowed c (within_of k more) → IsTitle t (kind_header k None) → length y ≡ 0 → v ≡ within_of k (suc more)
+      → Stands allowed (c ++ (t ++ y)) v
   open_within k more c t y v any stands is long to =
-      let o = inside_of strict k more c stands in
+      let o = inside_of allowed k more c stands in
       within k (suc more) o.run (add_open k (suc more) o.opens t o.bs o.at is) o.ok
       (sym (no_body c t y long) ∙ (ap (λ (z : List ℕ). z ++ t) o.is ∙ append_assoc o.u o.opens t))
-      (not_spelled strict _ _ any) (λ e. absurd (any e)) to
+      (not_spelled allowed _ _ any) (λ e. absurd (any e)) to
 
   -- A break within more than one open string.
-  break_within : (k : Kind) (more : ℕ) (c t y : List ℕ) (v : Within) → Stands strict c (within_of k (suc more))
-      → IsTitle t h.Break → length y ≡ 0 → v ≡ within_of k more → Stands strict (c ++ (t ++ y)) v
+  break_within : (k : Kind) (more : ℕ) (c t y : List ℕ) (v : Within) → Stands allowed c (within_of k (suc more))
+      → IsTitle t h.Break → length y ≡ 0 → v ≡ within_of k more → Stands allowed (c ++ (t ++ y)) v
   break_within k more c t y v stands is long to =
-      let o = inside_of strict k (suc more) c stands in
+      let o = inside_of allowed k (suc more) c stands in
       let ff = break_is t h.Break is refl in
-      let any : strict ≡ true → ⊥ = λ e. (let none = o.alone e in omega (arith, none)) in
+      let any : allowed ≡ Shortest → ⊥ = λ e. (let none = o.alone e in omega (arith, none)) in
       within k more o.run (close_inner k more o.opens o.bs o.at) o.ok
       (sym (no_body c t y long) ∙ (ap (λ (z : List ℕ). z ++ t) o.is ∙ (append_assoc o.u o.opens t
       ∙ ap (λ (z : List ℕ). o.u ++ (o.opens ++ z)) ff)))
-      (not_spelled strict _ _ any) (λ e. absurd (any e)) to
+      (not_spelled allowed _ _ any) (λ e. absurd (any e)) to
 
   -- The break of the only open string.
-  break_last : (k : Kind) (c t y : List ℕ) (v : Within) → Stands strict c (within_of k 0) → IsTitle t h.Break
-      → length y ≡ 0 → v ≡ w.Nothing → Stands strict (c ++ (t ++ y)) v
+  break_last : (k : Kind) (c t y : List ℕ) (v : Within) → Stands allowed c (within_of k 0) → IsTitle t h.Break
+      → length y ≡ 0 → v ≡ w.Nothing → Stands allowed (c ++ (t ++ y)) v
   break_last k c t y v stands is long to =
-      let o = inside_of strict k 0 c stands in
+      let o = inside_of allowed k 0 c stands in
       let ff = break_is t h.Break is refl in
       let whole : o.u ++ (o.opens ++ 0xff ∷ []) ≡ c ++ (t ++ y) =
       ap (λ (z : List ℕ). o.u ++ (o.opens ++ z)) (sym ff) ∙ (sym (append_assoc o.u o.opens t)
       ∙ (ap (λ (z : List ℕ). z ++ t) (sym o.is) ∙ no_body c t y long)) in
       let closed : c ++ 0xff ∷ [] ≡ o.u ++ (o.opens ++ 0xff ∷ []) =
       ap (λ (z : List ℕ). z ++ 0xff ∷ []) o.is ∙ append_assoc o.u o.opens (0xff ∷ []) in
-      subst (λ (z : List ℕ). Stands strict z v) whole
+      subst (λ (z : List ℕ). Stands allowed z v) whole
       (between (add_element o.n o.u o.ms o.run (o.opens ++ 0xff ∷ []) _ (close_last k o.opens o.bs o.at o.ok))
-      (spelled_same strict _ _ _ _ closed (append_assoc o.ms (Open k ∷ pieces k o.bs) (Close ∷ []))
-      (spelled_add strict c (0xff ∷ []) _ _ o.spelled (spelled_close strict))) to)
+      (spelled_same allowed _ _ _ _ closed (append_assoc o.ms (Open k ∷ pieces k o.bs) (Close ∷ []))
+      (spelled_add allowed c (0xff ∷ []) _ _ o.spelled (spelled_close allowed))) to)
 
 -- Options.
 some_one : (u v : Within) → Some u ≡ Some v → v ≡ u
@@ -281,70 +286,74 @@ some_one u v e = cc e
 none_some : {A : Type 0} → (v : Within) → None ≡ Some v → A
 none_some v e = absurd (cc e)
 
-from_nothing : (strict : Bool) (c t y : List ℕ) (x : Header) (v : Within) → Stands strict c w.Nothing → IsTitle t x
-    → IsTakenTitle strict t x → Some (opened x) ≡ Some v → length y ≡ body_len x → IsBody x y
-    → Stands strict (c ++ (t ++ y)) v
-from_nothing strict c t y (h.Bytes (Some n)) v stands is taken to long text =
-    after_elements strict Bytes c t y n v stands is taken long tt (some_one _ v to)
-from_nothing strict c t y (h.Bytes None) v stands is taken to long text =
-    open_elements strict Bytes c t y v stands is taken long (some_one _ v to)
-from_nothing strict c t y (h.Text (Some n)) v stands is taken to long text =
-    after_elements strict Text c t y n v stands is taken long text (some_one _ v to)
-from_nothing strict c t y (h.Text None) v stands is taken to long text =
-    open_elements strict Text c t y v stands is taken long (some_one _ v to)
-from_nothing strict c t y x v stands is taken to long text =
-    plain_elements strict c t y x v stands is taken tt long (some_one _ v to)
+from_nothing : (allowed : Spelling) (c t y : List ℕ) (x : Header) (v : Within) → Stands allowed c w.Nothing
+    → IsTitle t x
+    → IsTakenTitle allowed t x → Some (opened x) ≡ Some v → length y ≡ body_len x → IsBody x y
+    → Stands allowed (c ++ (t ++ y)) v
+from_nothing allowed c t y (h.Bytes (Some n)) v stands is taken to long text =
+    after_elements allowed Bytes c t y n v stands is taken long tt (some_one _ v to)
+from_nothing allowed c t y (h.Bytes None) v stands is taken to long text =
+    open_elements allowed Bytes c t y v stands is taken long (some_one _ v to)
+from_nothing allowed c t y (h.Text (Some n)) v stands is taken to long text =
+    after_elements allowed Text c t y n v stands is taken long text (some_one _ v to)
+from_nothing allowed c t y (h.Text None) v stands is taken to long text =
+    open_elements allowed Text c t y v stands is taken long (some_one _ v to)
+from_nothing allowed c t y x v stands is taken to long text =
+    plain_elements allowed c t y x v stands is taken tt long (some_one _ v to)
 
-from_bytes : (strict : Bool) (more : ℕ) (c t y : List ℕ) (x : Header) (v : Within) → Stands strict c (w.Bytes more)
-    → IsTitle t x → IsTakenTitle strict t x → within_bytes strict more x ≡ Some v → length y ≡ body_len x → IsBody x y
-    → Stands strict (c ++ (t ++ y)) v
-from_bytes strict more c t y (h.Bytes (Some n)) v stands is taken to long text =
-    string_within strict Bytes more c t y n v stands is taken long tt (some_one _ v to)
-from_bytes true more c t y (h.Bytes None) v stands is taken to long text = none_some v to
-from_bytes false more c t y (h.Bytes None) v stands is taken to long text =
-    open_within false Bytes more c t y v not_true stands is long (some_one _ v to)
-from_bytes strict zero c t y h.Break v stands is taken to long text =
-    break_last strict Bytes c t y v stands is long (some_one _ v to)
-from_bytes strict (suc more) c t y h.Break v stands is taken to long text =
-    break_within strict Bytes more c t y v stands is long (some_one _ v to)
-from_bytes strict more c t y x v stands is taken to long text = none_some v to
+from_bytes : (allowed : Spelling) (more : ℕ) (c t y : List ℕ) (x : Header) (v : Within)
+    → Stands allowed c (w.Bytes more)
+    → IsTitle t x → IsTakenTitle allowed t x → within_bytes allowed more x ≡ Some v → length y ≡ body_len x → IsBody x y
+    → Stands allowed (c ++ (t ++ y)) v
+from_bytes allowed more c t y (h.Bytes (Some n)) v stands is taken to long text =
+    string_within allowed Bytes more c t y n v stands is taken long tt (some_one _ v to)
+from_bytes Shortest more c t y (h.Bytes None) v stands is taken to long text = none_some v to
+from_bytes Any more c t y (h.Bytes None) v stands is taken to long text =
+    open_within Any Bytes more c t y v not_shortest stands is long (some_one _ v to)
+from_bytes allowed zero c t y h.Break v stands is taken to long text =
+    break_last allowed Bytes c t y v stands is long (some_one _ v to)
+from_bytes allowed (suc more) c t y h.Break v stands is taken to long text =
+    break_within allowed Bytes more c t y v stands is long (some_one _ v to)
+from_bytes allowed more c t y x v stands is taken to long text = none_some v to
 
-from_text : (strict : Bool) (more : ℕ) (c t y : List ℕ) (x : Header) (v : Within) → Stands strict c (w.Text more)
-    → IsTitle t x → IsTakenTitle strict t x → within_text strict more x ≡ Some v → length y ≡ body_len x → IsBody x y
-    → Stands strict (c ++ (t ++ y)) v
-from_text strict more c t y (h.Text (Some n)) v stands is taken to long text =
-    string_within strict Text more c t y n v stands is taken long text (some_one _ v to)
-from_text true more c t y (h.Text None) v stands is taken to long text = none_some v to
-from_text false more c t y (h.Text None) v stands is taken to long text =
-    open_within false Text more c t y v not_true stands is long (some_one _ v to)
-from_text strict zero c t y h.Break v stands is taken to long text =
-    break_last strict Text c t y v stands is long (some_one _ v to)
-from_text strict (suc more) c t y h.Break v stands is taken to long text =
-    break_within strict Text more c t y v stands is long (some_one _ v to)
-from_text strict more c t y x v stands is taken to long text = none_some v to
+from_text : (allowed : Spelling) (more : ℕ) (c t y : List ℕ) (x : Header) (v : Within) → Stands allowed c (w.Text more)
+    → IsTitle t x → IsTakenTitle allowed t x → within_text allowed more x ≡ Some v → length y ≡ body_len x → IsBody x y
+    → Stands allowed (c ++ (t ++ y)) v
+from_text allowed more c t y (h.Text (Some n)) v stands is taken to long text =
+    string_within allowed Text more c t y n v stands is taken long text (some_one _ v to)
+from_text Shortest more c t y (h.Text None) v stands is taken to long text = none_some v to
+from_text Any more c t y (h.Text None) v stands is taken to long text =
+    open_within Any Text more c t y v not_shortest stands is long (some_one _ v to)
+from_text allowed zero c t y h.Break v stands is taken to long text =
+    break_last allowed Text c t y v stands is long (some_one _ v to)
+from_text allowed (suc more) c t y h.Break v stands is taken to long text =
+    break_within allowed Text more c t y v stands is long (some_one _ v to)
+from_text allowed more c t y x v stands is taken to long text = none_some v to
 
-one_more : (strict : Bool) (c t y : List ℕ) (x : Header) (u v : Within) → Stands strict c u → IsTitleIn strict u t x v
-    → length y ≡ body_len x → IsBody x y → Stands strict (c ++ (t ++ y)) v
-one_more strict c t y x w.Nothing v stands is long text =
-    from_nothing strict c t y x v stands is.is_title is.taken is.stands long text
-one_more strict c t y x (w.Bytes more) v stands is long text =
-    from_bytes strict more c t y x v stands is.is_title is.taken is.stands long text
-one_more strict c t y x (w.Text more) v stands is long text =
-    from_text strict more c t y x v stands is.is_title is.taken is.stands long text
+one_more : (allowed : Spelling) (c t y : List ℕ) (x : Header) (u v : Within) → Stands allowed c u
+    → IsTitleIn allowed u t x v
+    → length y ≡ body_len x → IsBody x y → Stands allowed (c ++ (t ++ y)) v
+one_more allowed c t y x w.Nothing v stands is long text =
+    from_nothing allowed c t y x v stands is.is_title is.taken is.stands long text
+one_more allowed c t y x (w.Bytes more) v stands is long text =
+    from_bytes allowed more c t y x v stands is.is_title is.taken is.stands long text
+one_more allowed c t y x (w.Text more) v stands is long text =
+    from_text allowed more c t y x v stands is.is_title is.taken is.stands long text
 
 -- Tokens are elements, or elements and strings that are open.
-tokens_stand : (strict : Bool) (d : List ℕ) (ts : List Token) (v : Within) → AreTokens strict d ts v
-    → Stands strict d v
-tokens_stand strict d ts v parsing.none = between done (spelled_nothing strict) refl
-tokens_stand strict d ts v
+tokens_stand : (allowed : Spelling) (d : List ℕ) (ts : List Token) (v : Within) → AreTokens allowed d ts v
+    → Stands allowed d v
+tokens_stand allowed d ts v parsing.none = between done (spelled_nothing allowed) refl
+tokens_stand allowed d ts v
     (parsing.more {before = c} {title = t} {body = y} {header = x} {tokens = us} {within = u} are is long text) =
-    one_more strict c t y x u v (tokens_stand strict c us u are) is long text
+    one_more allowed c t y x u v (tokens_stand allowed c us u are) is long text
 
 -- If no string is open, tokens are elements.
-pub tokens_elements : (strict : Bool) (d : List ℕ) (ts : List Token) → AreTokens strict d ts w.Nothing → AreElements d
-tokens_elements strict d ts are = by_stand (tokens_stand strict d ts w.Nothing are)
+pub tokens_elements : (allowed : Spelling) (d : List ℕ) (ts : List Token) → AreTokens allowed d ts w.Nothing
+    → AreElements d
+tokens_elements allowed d ts are = by_stand (tokens_stand allowed d ts w.Nothing are)
   where
-    by_stand : Stands strict d w.Nothing → AreElements d
+    by_stand : Stands allowed d w.Nothing → AreElements d
     by_stand (between {n = n} {ms = ms} run spelled e) = (n, ms, run)
     by_stand (within Bytes more run i ok e s o e') = absurd (cc e')
     by_stand (within Text more run i ok e s o e') = absurd (cc e')
@@ -358,45 +367,45 @@ point_of (w.Bytes more) = In Bytes
 point_of (w.Text more) = In Text
 
 -- How far a copy comes.
-record Reached (strict : Bool) (bytes : List ℕ) (point : Point) : Type 0 where
+record Reached (allowed : Spelling) (bytes : List ℕ) (point : Point) : Type 0 where
   count : ℕ
   marks : List Mark
   reach : Reaches count bytes marks point
-  spelled : strict ≡ true → IsStrictSpelling bytes marks (due_title point)
+  spelled : allowed ≡ Shortest → IsStrictSpelling bytes marks (due_title point)
 
-spelled_out : (strict : Bool) (d : List ℕ) (ms : List Mark) → Spelled strict d ms → strict ≡ true
+spelled_out : (allowed : Spelling) (d : List ℕ) (ms : List Mark) → Spelled allowed d ms → allowed ≡ Shortest
     → IsStrictSpelling d ms []
 unfolding Spelled
-spelled_out strict d ms spelled = λ e.
+spelled_out allowed d ms spelled = λ e.
     let o = spelled e in record { same = o.0 ∙ sym (append-nil (spelling ms)); meant = o.1 }
 
-reached : (strict : Bool) (d : List ℕ) (v : Within) → Stands strict d v → Reached strict d (point_of v)
+reached : (allowed : Spelling) (d : List ℕ) (v : Within) → Stands allowed d v → Reached allowed d (point_of v)
 unfolding point_of
-reached strict d w.Nothing (between {n = n} {ms = ms} run spelled e) =
-    record { count = suc n; marks = ms; reach = due (omega arith) run; spelled = spelled_out strict d ms spelled }
-reached strict d (w.Bytes more) (between run spelled e) = absurd (cc e)
-reached strict d (w.Text more) (between run spelled e) = absurd (cc e)
-reached strict d w.Nothing (within Bytes m run i ok e spelled alone e') = absurd (cc e')
-reached strict d w.Nothing (within Text m run i ok e spelled alone e') = absurd (cc e')
-reached strict d (w.Text more) (within Bytes m run i ok e spelled alone e') = absurd (cc e')
-reached strict d (w.Bytes more) (within Text m run i ok e spelled alone e') = absurd (cc e')
-reached strict d (w.Bytes more)
+reached allowed d w.Nothing (between {n = n} {ms = ms} run spelled e) =
+    record { count = suc n; marks = ms; reach = due (omega arith) run; spelled = spelled_out allowed d ms spelled }
+reached allowed d (w.Bytes more) (between run spelled e) = absurd (cc e)
+reached allowed d (w.Text more) (between run spelled e) = absurd (cc e)
+reached allowed d w.Nothing (within Bytes m run i ok e spelled alone e') = absurd (cc e')
+reached allowed d w.Nothing (within Text m run i ok e spelled alone e') = absurd (cc e')
+reached allowed d (w.Text more) (within Bytes m run i ok e spelled alone e') = absurd (cc e')
+reached allowed d (w.Bytes more) (within Text m run i ok e spelled alone e') = absurd (cc e')
+reached allowed d (w.Bytes more)
     (within {n = n} {u = u} {opens = o} {ms = ms} {bs = bs} Bytes m run i ok e spelled alone e') =
     record {
       count = suc n;
       marks = _;
       reach = subst (λ (z : List ℕ). Reaches (suc n) z (ms ++ Open Bytes ∷ pieces Bytes bs) (In Bytes)) (sym e)
           (inside (omega arith) run (counted Bytes (suc m) o bs i) ok);
-      spelled = spelled_out strict d (ms ++ Open Bytes ∷ pieces Bytes bs) spelled;
+      spelled = spelled_out allowed d (ms ++ Open Bytes ∷ pieces Bytes bs) spelled;
     }
-reached strict d (w.Text more)
+reached allowed d (w.Text more)
     (within {n = n} {u = u} {opens = o} {ms = ms} {bs = bs} Text m run i ok e spelled alone e') =
     record {
       count = suc n;
       marks = _;
       reach = subst (λ (z : List ℕ). Reaches (suc n) z (ms ++ Open Text ∷ pieces Text bs) (In Text)) (sym e)
           (inside (omega arith) run (counted Text (suc m) o bs i) ok);
-      spelled = spelled_out strict d (ms ++ Open Text ∷ pieces Text bs) spelled;
+      spelled = spelled_out allowed d (ms ++ Open Text ∷ pieces Text bs) spelled;
     }
 
 refused_more : (t more : List ℕ) → BeginsRefused t → BeginsRefused (t ++ more)
@@ -410,10 +419,10 @@ at_title (w.Bytes more) = tt
 at_title (w.Text more) = tt
 
 -- A fault of elements, at a point that a copy reaches.
-faults_at : (strict : Bool) (d ahead : List ℕ) (point : Point) (place : ℕ) (written : List ℕ) (consumed : ℕ)
-    (r : Reached strict d point) → FirstFault strict d r.marks point ahead (Syntax place) written consumed
-    → FaultsAt strict (d ++ ahead) place
-faults_at strict d ahead point place written consumed r fault = (
+faults_at : (allowed : Spelling) (d ahead : List ℕ) (point : Point) (place : ℕ) (written : List ℕ) (consumed : ℕ)
+    (r : Reached allowed d point) → FirstFault allowed d r.marks point ahead (Syntax place) written consumed
+    → FaultsAt allowed (d ++ ahead) place
+faults_at allowed d ahead point place written consumed r fault = (
   r.count,
   record {
     before = d;
@@ -431,88 +440,90 @@ faults_at strict d ahead point place written consumed r fault = (
   refl,
 )
 
-misplaced_bytes : (strict : Bool) (more : ℕ) (x : Header) → within_bytes strict more x ≡ None
-    → IsRefusedIn strict Bytes x
-misplaced_bytes strict more (h.Bytes (Some n)) e = absurd (cc e)
-misplaced_bytes true more (h.Bytes None) e = inr (refl, refl)
-misplaced_bytes false more (h.Bytes None) e = absurd (cc e)
-misplaced_bytes strict more h.Break e = absurd (cc e)
-misplaced_bytes strict more x e = inl tt
+misplaced_bytes : (allowed : Spelling) (more : ℕ) (x : Header) → within_bytes allowed more x ≡ None
+    → IsRefusedIn allowed Bytes x
+misplaced_bytes allowed more (h.Bytes (Some n)) e = absurd (cc e)
+misplaced_bytes Shortest more (h.Bytes None) e = inr (refl, refl)
+misplaced_bytes Any more (h.Bytes None) e = absurd (cc e)
+misplaced_bytes allowed more h.Break e = absurd (cc e)
+misplaced_bytes allowed more x e = inl tt
 
-misplaced_text : (strict : Bool) (more : ℕ) (x : Header) → within_text strict more x ≡ None
-    → IsRefusedIn strict Text x
-misplaced_text strict more (h.Text (Some n)) e = absurd (cc e)
-misplaced_text true more (h.Text None) e = inr (refl, refl)
-misplaced_text false more (h.Text None) e = absurd (cc e)
-misplaced_text strict more h.Break e = absurd (cc e)
-misplaced_text strict more x e = inl tt
+misplaced_text : (allowed : Spelling) (more : ℕ) (x : Header) → within_text allowed more x ≡ None
+    → IsRefusedIn allowed Text x
+misplaced_text allowed more (h.Text (Some n)) e = absurd (cc e)
+misplaced_text Shortest more (h.Text None) e = inr (refl, refl)
+misplaced_text Any more (h.Text None) e = absurd (cc e)
+misplaced_text allowed more h.Break e = absurd (cc e)
+misplaced_text allowed more x e = inl tt
 
 -- A title that may not stand there.
-other_title : (strict : Bool) (d t more : List ℕ) (v : Within) (x : Header) → Reached strict d (point_of v)
-    → IsTitle t x → within_after strict v x ≡ None → FaultsAt strict (d ++ (t ++ more)) (length d)
+other_title : (allowed : Spelling) (d t more : List ℕ) (v : Within) (x : Header) → Reached allowed d (point_of v)
+    → IsTitle t x → within_after allowed v x ≡ None → FaultsAt allowed (d ++ (t ++ more)) (length d)
 unfolding point_of
-other_title strict d t more w.Nothing x r is e = absurd (cc e)
-other_title strict d t more (w.Bytes m) x r is e =
-    faults_at strict d (t ++ more) (In Bytes) (length d) _ _ r
-    (OtherTitle x more is (misplaced_bytes strict m x e) refl)
-other_title strict d t more (w.Text m) x r is e =
-    faults_at strict d (t ++ more) (In Text) (length d) _ _ r
-    (OtherTitle x more is (misplaced_text strict m x e) refl)
+other_title allowed d t more w.Nothing x r is e = absurd (cc e)
+other_title allowed d t more (w.Bytes m) x r is e =
+    faults_at allowed d (t ++ more) (In Bytes) (length d) _ _ r
+    (OtherTitle x more is (misplaced_bytes allowed m x e) refl)
+other_title allowed d t more (w.Text m) x r is e =
+    faults_at allowed d (t ++ more) (In Text) (length d) _ _ r
+    (OtherTitle x more is (misplaced_text allowed m x e) refl)
 
 -- Three parts of bytes, and more.
 four : (d t y more : List ℕ) → (d ++ (t ++ y)) ++ more ≡ (d ++ t) ++ (y ++ more)
 four d t y more = simp append_assoc
 
-due_at : {strict : Bool} {d : List ℕ} (r : Reached strict d (point_of w.Nothing)) → Reaches r.count d r.marks Due
+due_at : {allowed : Spelling} {d : List ℕ} (r : Reached allowed d (point_of w.Nothing)) → Reaches r.count d r.marks Due
 unfolding point_of
 due_at r = r.reach
 
-in_at : {strict : Bool} {d : List ℕ} (m : ℕ) (r : Reached strict d (point_of (w.Text m)))
+in_at : {allowed : Spelling} {d : List ℕ} (m : ℕ) (r : Reached allowed d (point_of (w.Text m)))
     → Reaches r.count d r.marks (In Text)
 unfolding point_of
 in_at m r = r.reach
 
 -- The marks before a body have the spelling of what was read, and its title is the shortest.
-before_body : (strict : Bool) (d t : List ℕ) (ms : List Mark) (x : Header) → (strict ≡ true → IsStrictSpelling d ms [])
-    → IsTakenTitle strict t x → strict ≡ true → IsStrictSpelling (d ++ t) ms (shortest_title x)
-before_body strict d t ms x spelled taken = λ e.
+before_body : (allowed : Spelling) (d t : List ℕ) (ms : List Mark) (x : Header)
+    → (allowed ≡ Shortest → IsStrictSpelling d ms [])
+    → IsTakenTitle allowed t x → allowed ≡ Shortest → IsStrictSpelling (d ++ t) ms (shortest_title x)
+before_body allowed d t ms x spelled taken = λ e.
     let o = spelled e in
-    let title = (taken_same strict t x taken e).0 in
+    let title = (taken_same allowed t x taken e).0 in
     record {
       same = ap (λ (z : List ℕ). z ++ t) (o.same ∙ append-nil (spelling ms))
           ∙ ap (λ (z : List ℕ). spelling ms ++ z) title;
       meant = o.meant;
     }
 
-at_due : (strict : Bool) (d : List ℕ) (r : Reached strict d (point_of w.Nothing)) → strict ≡ true
+at_due : (allowed : Spelling) (d : List ℕ) (r : Reached allowed d (point_of w.Nothing)) → allowed ≡ Shortest
     → IsStrictSpelling d r.marks []
 unfolding point_of
-at_due strict d r = r.spelled
+at_due allowed d r = r.spelled
 
-at_in : (strict : Bool) (d : List ℕ) (m : ℕ) (r : Reached strict d (point_of (w.Text m))) → strict ≡ true
+at_in : (allowed : Spelling) (d : List ℕ) (m : ℕ) (r : Reached allowed d (point_of (w.Text m))) → allowed ≡ Shortest
     → IsStrictSpelling d r.marks []
 unfolding point_of
-at_in strict d m r = r.spelled
+at_in allowed d m r = r.spelled
 
-title_named : (strict : Bool) (d t : List ℕ) (v : Within) → Stands strict d v → IsNoTitleIn strict v t
-    → IsNamed strict (d ++ t) (length d)
-title_named strict d t v stands (inl (inl refused)) =
-    let r = reached strict d v stands in (
+title_named : (allowed : Spelling) (d t : List ℕ) (v : Within) → Stands allowed d v → IsNoTitleIn allowed v t
+    → IsNamed allowed (d ++ t) (length d)
+title_named allowed d t v stands (inl (inl refused)) =
+    let r = reached allowed d v stands in (
       0,
       λ more least. rw (append_assoc d t more)
-          (faults_at strict d (t ++ more) (point_of v) (length d) _ _ r
+          (faults_at allowed d (t ++ more) (point_of v) (length d) _ _ r
           (NoTitle (at_title v) (refused_more t more refused))),
     )
-title_named strict d t v stands (inl (inr (x, is, longer))) =
-    let r = reached strict d v stands in (
+title_named allowed d t v stands (inl (inr (x, is, longer))) =
+    let r = reached allowed d v stands in (
       0,
       λ more least. rw (append_assoc d t more)
-          (faults_at strict d (t ++ more) (point_of v) (length d) _ _ r (LongTitle x more (at_title v) is longer refl)),
+          (faults_at allowed d (t ++ more) (point_of v) (length d) _ _ r
+          (LongTitle x more (at_title v) is longer refl)),
     )
-title_named strict d t v stands (inr (x, is, misplaced)) = (
+title_named allowed d t v stands (inr (x, is, misplaced)) = (
   0,
   λ more least. rw (append_assoc d t more)
-      (other_title strict d t more v x (reached strict d v stands) is misplaced),
+      (other_title allowed d t more v x (reached allowed d v stands) is misplaced),
 )
 
 -- The first bytes of a body, if enough follow.
@@ -530,11 +541,12 @@ body_front y carried more left enough =
     (length-append carried (take left more) ∙ ap (λ (n : ℕ). length carried + n) (length-take-le left more enough)))
 
 -- A body that is no text.
-body_fault : (strict : Bool) (before y carried more : List ℕ) (ms : List Mark) (len left start : ℕ) → IsCharacters y
+body_fault : (allowed : Spelling) (before y carried more : List ℕ) (ms : List Mark) (len left start : ℕ)
+    → IsCharacters y
     → (CanEnd carried left → ⊥) → length y + (length carried + left) ≡ len → left ≤ length more
-    → FirstFault strict before ms (BodyDue Text len start) ((y ++ carried) ++ more) (Syntax start)
+    → FirstFault allowed before ms (BodyDue Text len start) ((y ++ carried) ++ more) (Syntax start)
     (with_front ms Text len y) (length y)
-body_fault strict before y carried more ms len left start text stops long enough =
+body_fault allowed before y carried more ms len left start text stops long enough =
     let front : take len ((y ++ carried) ++ more) ≡ y ++ (carried ++ take left more) =
     subst (λ (n : ℕ). take n ((y ++ carried) ++ more) ≡ y ++ (carried ++ take left more)) long
     (body_front y carried more left enough) in
@@ -547,45 +559,45 @@ body_fault strict before y carried more ms len left start text stops long enough
     ))
     front text (omega arith) (omega (arith, long))
 
-text_named : (strict : Bool) (d t y carried : List ℕ) (v u : Within) (len left : ℕ) → Stands strict d v
-    → IsTitleIn strict v t (h.Text (Some len)) u → IsCharacters y → (CanEnd carried left → ⊥)
+text_named : (allowed : Spelling) (d t y carried : List ℕ) (v u : Within) (len left : ℕ) → Stands allowed d v
+    → IsTitleIn allowed v t (h.Text (Some len)) u → IsCharacters y → (CanEnd carried left → ⊥)
     → length y + (length carried + left) ≡ len
-    → IsNamed strict (d ++ (t ++ (y ++ carried))) (text_place v (length d) (length (d ++ t)) (h.Text (Some len)))
-text_named strict d t y carried w.Nothing u len left stands is text stops long =
-    let r = reached strict d w.Nothing stands in (
+    → IsNamed allowed (d ++ (t ++ (y ++ carried))) (text_place v (length d) (length (d ++ t)) (h.Text (Some len)))
+text_named allowed d t y carried w.Nothing u len left stands is text stops long =
+    let r = reached allowed d w.Nothing stands in (
       left,
       λ more least.
           rw (four d t (y ++ carried) more)
-          (faults_at strict (d ++ t) ((y ++ carried) ++ more) (BodyDue Text len _) _ _ _
+          (faults_at allowed (d ++ t) ((y ++ carried) ++ more) (BodyDue Text len _) _ _ _
           (record {
             count = r.count;
             marks = r.marks;
             reach = body Text (due_at r) is.is_title;
-            spelled = before_body strict d t r.marks (h.Text (Some len)) (at_due strict d r) is.taken;
+            spelled = before_body allowed d t r.marks (h.Text (Some len)) (at_due allowed d r) is.taken;
           })
-          (body_fault strict (d ++ t) y carried more r.marks len left _ text stops long least)),
+          (body_fault allowed (d ++ t) y carried more r.marks len left _ text stops long least)),
     )
-text_named strict d t y carried (w.Bytes m) u len left stands is text stops long = absurd (cc is.stands)
-text_named strict d t y carried (w.Text m) u len left stands is text stops long =
-    let r = reached strict d (w.Text m) stands in (
+text_named allowed d t y carried (w.Bytes m) u len left stands is text stops long = absurd (cc is.stands)
+text_named allowed d t y carried (w.Text m) u len left stands is text stops long =
+    let r = reached allowed d (w.Text m) stands in (
       left,
       λ more least.
           rw (four d t (y ++ carried) more)
-          (faults_at strict (d ++ t) ((y ++ carried) ++ more) (BodyDue Text len (length d)) _ _ _
+          (faults_at allowed (d ++ t) ((y ++ carried) ++ more) (BodyDue Text len (length d)) _ _ _
           (record {
             count = r.count;
             marks = r.marks;
             reach = body_inside (in_at m r) is.is_title;
-            spelled = before_body strict d t r.marks (h.Text (Some len)) (at_in strict d m r) is.taken;
+            spelled = before_body allowed d t r.marks (h.Text (Some len)) (at_in allowed d m r) is.taken;
           })
-          (body_fault strict (d ++ t) y carried more r.marks len left _ text stops long least)),
+          (body_fault allowed (d ++ t) y carried more r.marks len left _ text stops long least)),
     )
 
 -- The fault of a parser is the fault of elements.
-pub named : (strict : Bool) (b : List ℕ) (ts : List Token) (place : ℕ) → IsParsed strict b ts (AtFault place)
-    → IsNamed strict b place
-named strict b ts place (parsing.no_title {done = d} {title = t} {tokens = us} {within = v} are refused is) =
-    rw is (title_named strict d t v (tokens_stand strict d us v are) refused)
-named strict b ts place (parsing.in_body {done = d} {title = t} {tokens = us} {before = v} {within = u} are title
+pub named : (allowed : Spelling) (b : List ℕ) (ts : List Token) (place : ℕ) → IsParsed allowed b ts (AtFault place)
+    → IsNamed allowed b place
+named allowed b ts place (parsing.no_title {done = d} {title = t} {tokens = us} {within = v} are refused is) =
+    rw is (title_named allowed d t v (tokens_stand allowed d us v are) refused)
+named allowed b ts place (parsing.in_body {done = d} {title = t} {tokens = us} {before = v} {within = u} are title
     (parsing.no_text {len = len} {left = k} {body = y} {carried = r} chars held stops long) is) =
-    rw is (text_named strict d t y r v u len k (tokens_stand strict d us v are) title chars stops long)
+    rw is (text_named allowed d t y r v u len k (tokens_stand allowed d us v are) title chars stops long)

@@ -1,8 +1,9 @@
 -- Bytes are the same tokens, however they were pushed.
-use Rattle.std.proofs.Common.{◌≡◌, ℕ, ◌+◌, ◌≤◌, Bool, List, [], ◌∷◌, ◌++◌, length, Some, None, inl}
+use Rattle.std.proofs.Common.{◌≡◌, ℕ, ◌+◌, ◌≤◌, List, [], ◌∷◌, ◌++◌, length, Some, None, inl}
 use Rattle.std.proofs.Common.{inr}
 use Rattle.std.proofs.Common.{refl, sym, ap, subst, ◌∙◌, arith, append-nil, append_assoc, length-append}
 use Rattle.std.proofs.lemmas.Bool.{cases_lt}
+use Rattle.ciborium_ll_grammar.specs.declared.spelling.Spelling.{Spelling}
 use Rattle.ciborium_ll_grammar.specs.declared.hdr.Header.{Header}
 use Rattle.ciborium_ll_grammar.specs.Title.{BeginsRefused, IsCutTitle, IsTitle}
 use Rattle.ciborium_ll_grammar.proofs.TitleLaws.{one_title, title_refused}
@@ -18,16 +19,16 @@ use Rattle.cbor_parser.specs.Parsing.{IsNoTitleIn, IsParsed, IsPart, IsTitleIn, 
 use Rattle.cbor_parser.specs.Parsing.{in_body, more, no_text, no_title, none, text, token}
 
 -- The same tokens, the first one first. The first title stands within these strings, at this offset.
-data Tail (strict : Bool) : Within → ℕ → List ℕ → List Token → Point → Type 0 where
-  cut : {v : Within} {n : ℕ} {b : List ℕ} → IsCutTitle b → Tail strict v n b [] (AtTitle v b)
-  bad : {v : Within} {n : ℕ} {b : List ℕ} → IsNoTitleIn strict v b → Tail strict v n b [] (AtFault n)
-  part : {v after : Within} {n : ℕ} {b t y body : List ℕ} {x : Header} {q : Point} → IsTitleIn strict v t x after
+data Tail (allowed : Spelling) : Within → ℕ → List ℕ → List Token → Point → Type 0 where
+  cut : {v : Within} {n : ℕ} {b : List ℕ} → IsCutTitle b → Tail allowed v n b [] (AtTitle v b)
+  bad : {v : Within} {n : ℕ} {b : List ℕ} → IsNoTitleIn allowed v b → Tail allowed v n b [] (AtFault n)
+  part : {v after : Within} {n : ℕ} {b t y body : List ℕ} {x : Header} {q : Point} → IsTitleIn allowed v t x after
       → IsPart after (text_place v n (n + length t) x) x y body q → b ≡ t ++ y
-      → Tail strict v n b (token x body ∷ []) q
+      → Tail allowed v n b (token x body ∷ []) q
   whole : {v after : Within} {n : ℕ} {b t y rest : List ℕ} {x : Header} {ts : List Token} {q : Point}
-      → IsTitleIn strict v t x after → length y ≡ body_len x → IsBody x y
-      → Tail strict after (n + (length t + length y)) rest ts q → b ≡ t ++ (y ++ rest)
-      → Tail strict v n b (token x y ∷ ts) q
+      → IsTitleIn allowed v t x after → length y ≡ body_len x → IsBody x y
+      → Tail allowed after (n + (length t + length y)) rest ts q → b ≡ t ++ (y ++ rest)
+      → Tail allowed v n b (token x y ∷ ts) q
 
 -- The first tokens, the last one first, and those after them.
 behind : List Token → List Token → List Token
@@ -43,30 +44,30 @@ behind_one : (ts us : List Token) → behind ts [] ≡ behind us [] → ts ≡ u
 unfolding behind
 behind_one ts us e = sym (behind_back ts []) ∙ (ap (λ (z : List Token). behind z []) e ∙ behind_back us [])
 
-to_tail : (strict : Bool) (d : List ℕ) (ts : List Token) (v : Within) → AreTokens strict d ts v → (rest : List ℕ)
-    (us : List Token) (q : Point) → Tail strict v (length d) rest us q
-    → Tail strict w.Nothing 0 (d ++ rest) (behind ts us) q
+to_tail : (allowed : Spelling) (d : List ℕ) (ts : List Token) (v : Within) → AreTokens allowed d ts v → (rest : List ℕ)
+    (us : List Token) (q : Point) → Tail allowed v (length d) rest us q
+    → Tail allowed w.Nothing 0 (d ++ rest) (behind ts us) q
 unfolding behind
-to_tail strict d ts v none rest us q tail = tail
-to_tail strict d ts v
+to_tail allowed d ts v none rest us q tail = tail
+to_tail allowed d ts v
     (more {before = c} {title = t} {body = y} {header = x} {tokens = vs} {within = u} are is long body) rest us q tail =
     let n : length (c ++ (t ++ y)) ≡ length c + (length t + length y) =
     omega (arith, length-append c (t ++ y), length-append t y) in
     rw (append_assoc c (t ++ y) rest)
-    (to_tail strict c vs u are ((t ++ y) ++ rest) _ q
-    (whole is long body (subst (λ (k : ℕ). Tail strict v k rest us q) n tail) (append_assoc t y rest)))
+    (to_tail allowed c vs u are ((t ++ y) ++ rest) _ q
+    (whole is long body (subst (λ (k : ℕ). Tail allowed v k rest us q) n tail) (append_assoc t y rest)))
 
-parsed_tail : (strict : Bool) (b : List ℕ) (ts : List Token) (q : Point) → IsParsed strict b ts q
-    → Tail strict w.Nothing 0 b (behind ts []) q
+parsed_tail : (allowed : Spelling) (b : List ℕ) (ts : List Token) (q : Point) → IsParsed allowed b ts q
+    → Tail allowed w.Nothing 0 b (behind ts []) q
 unfolding behind
-parsed_tail strict b ts q (at_title {done = d} {title = t} {tokens = us} {within = v} are begun is) =
-    rw is (to_tail strict d us v are t [] (AtTitle v t) (cut begun))
-parsed_tail strict b ts q (no_title {done = d} {title = t} {tokens = us} {within = v} are refused is) =
-    rw is (to_tail strict d us v are t [] (AtFault (length d)) (bad refused))
-parsed_tail strict b ts q
+parsed_tail allowed b ts q (at_title {done = d} {title = t} {tokens = us} {within = v} are begun is) =
+    rw is (to_tail allowed d us v are t [] (AtTitle v t) (cut begun))
+parsed_tail allowed b ts q (no_title {done = d} {title = t} {tokens = us} {within = v} are refused is) =
+    rw is (to_tail allowed d us v are t [] (AtFault (length d)) (bad refused))
+parsed_tail allowed b ts q
     (in_body {done = d} {title = t} {part = y} {body = z} {header = x} {tokens = us} {before = v} {within = u} are title
     piece is) =
-    rw is (to_tail strict d us v are (t ++ y) (token x z ∷ []) q
+    rw is (to_tail allowed d us v are (t ++ y) (token x z ∷ []) q
     (part title (subst (λ (k : ℕ). IsPart u (text_place v (length d) k x) x y z q) (length-append d t) piece) refl))
 
 -- ---- one body
@@ -153,21 +154,21 @@ refused_not_cut (byte ∷ rest) refused begun = omega (arith, begun, refused_aff
 title_whole : (b : List ℕ) (x : Header) → IsTitle b x → IsCutTitle b → ⊥
 title_whole b x is begun = title_not_cut b [] x is (subst IsCutTitle (sym (append-nil b)) begun)
 
-bad_not_cut : (strict : Bool) (v : Within) (b : List ℕ) → IsNoTitleIn strict v b → IsCutTitle b → ⊥
-bad_not_cut strict v b (inl (inl refused)) begun = refused_not_cut b refused begun
-bad_not_cut strict v b (inl (inr (x, is, longer))) begun = title_whole b x is begun
-bad_not_cut strict v b (inr (x, is, misplaced)) begun = title_whole b x is begun
+bad_not_cut : (allowed : Spelling) (v : Within) (b : List ℕ) → IsNoTitleIn allowed v b → IsCutTitle b → ⊥
+bad_not_cut allowed v b (inl (inl refused)) begun = refused_not_cut b refused begun
+bad_not_cut allowed v b (inl (inr (x, is, longer))) begun = title_whole b x is begun
+bad_not_cut allowed v b (inr (x, is, misplaced)) begun = title_whole b x is begun
 
-bad_not_title : (strict : Bool) (v after : Within) (b t y : List ℕ) (x : Header) → IsNoTitleIn strict v b
-    → IsTitleIn strict v t x after → b ≡ t ++ y → ⊥
-bad_not_title strict v after b t y x (inl (inl refused)) title e =
+bad_not_title : (allowed : Spelling) (v after : Within) (b t y : List ℕ) (x : Header) → IsNoTitleIn allowed v b
+    → IsTitleIn allowed v t x after → b ≡ t ++ y → ⊥
+bad_not_title allowed v after b t y x (inl (inl refused)) title e =
     title_refused t y x title.is_title (subst BeginsRefused e refused)
-bad_not_title strict v after b t y x (inl (inr (x', is, longer))) title e =
+bad_not_title allowed v after b t y x (inl (inr (x', is, longer))) title e =
     let o = one_title b t [] y x' x is title.is_title (append-nil b ∙ e) in
     longer (rw (o.0, o.1) title.taken)
-bad_not_title strict v after b t y x (inr (x', is, misplaced)) title e =
+bad_not_title allowed v after b t y x (inr (x', is, misplaced)) title e =
     let o = one_title b t [] y x' x is title.is_title (append-nil b ∙ e) in
-    let no : within_after strict v x ≡ None = subst (λ (z : Header). within_after strict v z ≡ None) o.1 misplaced in
+    let no : within_after allowed v x ≡ None = subst (λ (z : Header). within_after allowed v z ≡ None) o.1 misplaced in
     cc (no, title.stands)
 
 -- ---- one tail
@@ -176,71 +177,71 @@ abbrev Same : List Token → Point → List Token → Point → Type 0
 Same ts q us q' = (ts ≡ us) × (q ≡ q')
 
 -- The strings that are open after one title.
-one_after : (strict : Bool) (v v' u u' : Within) (x x' : Header) → within_after strict v x ≡ Some u
-    → within_after strict v' x' ≡ Some u' → v ≡ v' → x ≡ x' → u ≡ u'
-one_after strict v v' u u' x x' e e' a b =
-    let same : within_after strict v x ≡ within_after strict v' x' = rw (a, b) refl in
+one_after : (allowed : Spelling) (v v' u u' : Within) (x x' : Header) → within_after allowed v x ≡ Some u
+    → within_after allowed v' x' ≡ Some u' → v ≡ v' → x ≡ x' → u ≡ u'
+one_after allowed v v' u u' x x' e e' a b =
+    let same : within_after allowed v x ≡ within_after allowed v' x' = rw (a, b) refl in
     let some : Some u ≡ Some u' = sym e ∙ (same ∙ e') in cc some
 
-tail_one : (strict : Bool) (v v' : Within) (n n' : ℕ) (b b' : List ℕ) (ts us : List Token) (q q' : Point)
-    → Tail strict v n b ts q → Tail strict v' n' b' us q' → v ≡ v' → n ≡ n' → b ≡ b' → Same ts q us q'
-tail_one strict v v' n n' b b' ts us q q' (cut begun) (cut begun') s m e = (refl, rw (s, e) refl)
-tail_one strict v v' n n' b b' ts us q q' (cut begun) (bad refused) s m e =
-    absurd (bad_not_cut strict v' b' refused (subst IsCutTitle e begun))
-tail_one strict v v' n n' b b' ts us q q' (cut begun) (part {t = t} {y = y} {x = x} title piece is) s m e =
+tail_one : (allowed : Spelling) (v v' : Within) (n n' : ℕ) (b b' : List ℕ) (ts us : List Token) (q q' : Point)
+    → Tail allowed v n b ts q → Tail allowed v' n' b' us q' → v ≡ v' → n ≡ n' → b ≡ b' → Same ts q us q'
+tail_one allowed v v' n n' b b' ts us q q' (cut begun) (cut begun') s m e = (refl, rw (s, e) refl)
+tail_one allowed v v' n n' b b' ts us q q' (cut begun) (bad refused) s m e =
+    absurd (bad_not_cut allowed v' b' refused (subst IsCutTitle e begun))
+tail_one allowed v v' n n' b b' ts us q q' (cut begun) (part {t = t} {y = y} {x = x} title piece is) s m e =
     absurd (title_not_cut t y x title.is_title (subst IsCutTitle (e ∙ is) begun))
-tail_one strict v v' n n' b b' ts us q q' (cut begun)
+tail_one allowed v v' n n' b b' ts us q q' (cut begun)
     (whole {t = t} {y = y} {rest = r} {x = x} title long body tail is) s m e =
     absurd (title_not_cut t (y ++ r) x title.is_title (subst IsCutTitle (e ∙ is) begun))
-tail_one strict v v' n n' b b' ts us q q' (bad refused) (cut begun) s m e =
-    absurd (bad_not_cut strict v b refused (subst IsCutTitle (sym e) begun))
-tail_one strict v v' n n' b b' ts us q q' (bad refused) (bad refused') s m e = (refl, ap AtFault m)
-tail_one strict v v' n n' b b' ts us q q' (bad refused)
+tail_one allowed v v' n n' b b' ts us q q' (bad refused) (cut begun) s m e =
+    absurd (bad_not_cut allowed v b refused (subst IsCutTitle (sym e) begun))
+tail_one allowed v v' n n' b b' ts us q q' (bad refused) (bad refused') s m e = (refl, ap AtFault m)
+tail_one allowed v v' n n' b b' ts us q q' (bad refused)
     (part {after = u} {t = t} {y = y} {x = x} title piece is) s m e =
-    absurd (bad_not_title strict v' u b' t y x (rw (sym s, sym e) refused) title is)
-tail_one strict v v' n n' b b' ts us q q' (bad refused)
+    absurd (bad_not_title allowed v' u b' t y x (rw (sym s, sym e) refused) title is)
+tail_one allowed v v' n n' b b' ts us q q' (bad refused)
     (whole {after = u} {t = t} {y = y} {rest = r} {x = x} title long body tail is) s m e =
-    absurd (bad_not_title strict v' u b' t (y ++ r) x (rw (sym s, sym e) refused) title is)
-tail_one strict v v' n n' b b' ts us q q' (part {t = t} {y = y} {x = x} title piece is) (cut begun) s m e =
+    absurd (bad_not_title allowed v' u b' t (y ++ r) x (rw (sym s, sym e) refused) title is)
+tail_one allowed v v' n n' b b' ts us q q' (part {t = t} {y = y} {x = x} title piece is) (cut begun) s m e =
     absurd (title_not_cut t y x title.is_title (subst IsCutTitle (sym e ∙ is) begun))
-tail_one strict v v' n n' b b' ts us q q' (part {after = u} {t = t} {y = y} {x = x} title piece is)
+tail_one allowed v v' n n' b b' ts us q q' (part {after = u} {t = t} {y = y} {x = x} title piece is)
     (bad refused) s m e =
-    absurd (bad_not_title strict v u b t y x (rw (s, e) refused) title is)
-tail_one strict v v' n n' b b' ts us q q' (part {after = u} {t = t} {y = y} {body = z} {x = x} title piece is)
+    absurd (bad_not_title allowed v u b t y x (rw (s, e) refused) title is)
+tail_one allowed v v' n n' b b' ts us q q' (part {after = u} {t = t} {y = y} {body = z} {x = x} title piece is)
     (part {after = u'} {t = t'} {y = y'} {body = z'} {x = x'} title' piece' is') s m e =
     let o = one_title t t' y y' x x' title.is_title title'.is_title (sym is ∙ (e ∙ is')) in
-    let after = one_after strict v v' u u' x x' title.stands title'.stands s o.1 in
+    let after = one_after allowed v v' u u' x x' title.stands title'.stands s o.1 in
     let place : text_place v n (n + length t) x ≡ text_place v' n' (n' + length t') x' = rw (s, m, o.0, o.1) refl in
     let same = parts_one u u' _ _ x x' y y' z z' q q' piece piece' after place o.1 o.2 in
     (rw (o.1, same.0) refl, same.1)
-tail_one strict v v' n n' b b' ts us q q' (part {after = u} {t = t} {y = y} {body = z} {x = x} title piece is)
+tail_one allowed v v' n n' b b' ts us q q' (part {after = u} {t = t} {y = y} {body = z} {x = x} title piece is)
     (whole {t = t'} {y = y'} {rest = r} {x = x'} title' long body tail is') s m e =
     let o = one_title t t' y (y' ++ r) x x' title.is_title title'.is_title (sym is ∙ (e ∙ is')) in
     absurd (not_whole u _ x y z q piece y' r (long ∙ ap body_len (sym o.1)) (rw o.1 body) o.2)
-tail_one strict v v' n n' b b' ts us q q' (whole {t = t} {y = y} {rest = r} {x = x} title long body tail is)
+tail_one allowed v v' n n' b b' ts us q q' (whole {t = t} {y = y} {rest = r} {x = x} title long body tail is)
     (cut begun) s m e =
     absurd (title_not_cut t (y ++ r) x title.is_title (subst IsCutTitle (sym e ∙ is) begun))
-tail_one strict v v' n n' b b' ts us q q'
+tail_one allowed v v' n n' b b' ts us q q'
     (whole {after = u} {t = t} {y = y} {rest = r} {x = x} title long body tail is) (bad refused) s m e =
-    absurd (bad_not_title strict v u b t (y ++ r) x (rw (s, e) refused) title is)
-tail_one strict v v' n n' b b' ts us q q' (whole {t = t'} {y = y'} {rest = r} {x = x'} title' long body tail is')
+    absurd (bad_not_title allowed v u b t (y ++ r) x (rw (s, e) refused) title is)
+tail_one allowed v v' n n' b b' ts us q q' (whole {t = t'} {y = y'} {rest = r} {x = x'} title' long body tail is')
     (part {after = u} {t = t} {y = y} {body = z} {x = x} title piece is) s m e =
     let o = one_title t t' y (y' ++ r) x x' title.is_title title'.is_title (sym is ∙ (sym e ∙ is')) in
     absurd (not_whole u _ x y z q' piece y' r (long ∙ ap body_len (sym o.1)) (rw o.1 body) o.2)
-tail_one strict v v' n n' b b' ts us q q'
+tail_one allowed v v' n n' b b' ts us q q'
     (whole {after = u} {t = t} {y = y} {rest = r} {x = x} {ts = vs} title long body tail is)
     (whole {after = u'} {t = t'} {y = y'} {rest = r'} {x = x'} {ts = ws} title' long' body' tail' is') s m e =
     let o = one_title t t' (y ++ r) (y' ++ r') x x' title.is_title title'.is_title (sym is ∙ (e ∙ is')) in
-    let after = one_after strict v v' u u' x x' title.stands title'.stands s o.1 in
+    let after = one_after allowed v v' u u' x x' title.stands title'.stands s o.1 in
     let same = same_front y y' r r' (long ∙ (ap body_len o.1 ∙ sym long')) o.2 in
     let place : n + (length t + length y) ≡ n' + (length t' + length y') = rw (m, o.0, same.0) refl in
-    let (tokens, points) = tail_one strict u u' _ _ r r' vs ws q q' tail tail' after place same.1 in
+    let (tokens, points) = tail_one allowed u u' _ _ r r' vs ws q q' tail tail' after place same.1 in
     (rw (o.1, same.0, tokens) refl, points)
 
 -- The same bytes are the same tokens, and lead to the same point.
-pub one_parse : (strict : Bool) (b : List ℕ) (ts us : List Token) (q q' : Point) → IsParsed strict b ts q
-    → IsParsed strict b us q' → (ts ≡ us) × (q ≡ q')
-one_parse strict b ts us q q' one other =
-    let o = tail_one strict w.Nothing w.Nothing 0 0 b b _ _ q q' (parsed_tail strict b ts q one)
-    (parsed_tail strict b us q' other) refl refl refl in
+pub one_parse : (allowed : Spelling) (b : List ℕ) (ts us : List Token) (q q' : Point) → IsParsed allowed b ts q
+    → IsParsed allowed b us q' → (ts ≡ us) × (q ≡ q')
+one_parse allowed b ts us q q' one other =
+    let o = tail_one allowed w.Nothing w.Nothing 0 0 b b _ _ q q' (parsed_tail allowed b ts q one)
+    (parsed_tail allowed b us q' other) refl refl refl in
     (behind_one ts us o.0, o.1)

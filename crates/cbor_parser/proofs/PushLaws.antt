@@ -1,7 +1,8 @@
 -- What a push says of the tokens.
-use Rattle.std.proofs.Common.{◌≡◌, ℕ, zero, suc, ◌+◌, ◌-◌, ◌%◌, ◌<◌, Bool, true, List, [], ◌∷◌, ◌++◌, length, take}
+use Rattle.std.proofs.Common.{◌≡◌, ℕ, zero, suc, ◌+◌, ◌-◌, ◌%◌, ◌<◌, true, List, [], ◌∷◌, ◌++◌, length, take}
 use Rattle.std.proofs.Common.{slice_index}
 use Rattle.std.proofs.Common.{refl, sym, ap, subst, ◌∙◌, arith, length-append}
+use Rattle.ciborium_ll_grammar.specs.declared.spelling.Spelling.{Spelling}
 use Rattle.ciborium_ll_grammar.specs.Title.{IsCutTitle, affix_len}
 use Rattle.ciborium_ll_text.specs.Text.{IsCharacters, IsStuck}
 use Rattle.cbor_parser.specs.declared.event.Event.{Event}
@@ -56,27 +57,28 @@ pub kept_stuck : (phase : Phase) (front : List ℕ) (left place : ℕ) → phase
 kept_stuck phase front left place e stuck = subst (λ (q : Phase). IsStuck (carried_of q front)) e stuck
 
 -- What was pushed, by a phase that is known.
-at_phase : (strict : Bool) (before : List ℕ) (tokens : List Token) (old : Parser) (phase : Phase)
-    → HasPushed strict before tokens old → old.phase ≡ phase
-    → IsParsed strict before tokens (point_at phase old.within old.front)
-at_phase strict before tokens old phase is e =
-    subst (λ (q : Phase). IsParsed strict before tokens (point_at q old.within old.front)) e is.parsed
+at_phase : (allowed : Spelling) (before : List ℕ) (tokens : List Token) (old : Parser) (phase : Phase)
+    → HasPushed allowed before tokens old → old.phase ≡ phase
+    → IsParsed allowed before tokens (point_at phase old.within old.front)
+at_phase allowed before tokens old phase is e =
+    subst (λ (q : Phase). IsParsed allowed before tokens (point_at q old.within old.front)) e is.parsed
 
 -- What is pushed, by the point.
-pushed_of : (strict : Bool) (bytes : List ℕ) (tokens : List Token) (new : Parser) (point : Point)
-    → IsParsed strict bytes tokens point → point_of new ≡ point → new.strict ≡ strict → new.offset ≡ length bytes
-    → HasPushed strict bytes tokens new
-pushed_of strict bytes tokens new point parsed e spelling offset =
+pushed_of : (allowed : Spelling) (bytes : List ℕ) (tokens : List Token) (new : Parser) (point : Point)
+    → IsParsed allowed bytes tokens point → point_of new ≡ point → new.spelling ≡ allowed → new.offset ≡ length bytes
+    → HasPushed allowed bytes tokens new
+pushed_of allowed bytes tokens new point parsed e spelling offset =
     record {
-      parsed = subst (λ (q : Point). IsParsed strict bytes tokens q) (sym e) parsed;
+      parsed = subst (λ (q : Point). IsParsed allowed bytes tokens q) (sym e) parsed;
       spelling = spelling;
       offset = offset;
     }
 
 -- ---- bodies
 
-module _ (strict : Bool) (before : List ℕ) (tokens : List Token) (old new : Parser) (piece part : List ℕ) (rest : ℕ)
-    (is : HasPushed strict before tokens old) (spelling : new.strict ≡ old.strict)
+module _ (allowed : Spelling) (before : List ℕ) (tokens : List Token) (old new : Parser) (piece part : List ℕ)
+    (rest : ℕ)
+    (is : HasPushed allowed before tokens old) (spelling : new.spelling ≡ old.spelling)
     (offset : new.offset ≡ old.offset + length part) where
   counted : new.offset ≡ length (before ++ part)
   counted = omega (arith, offset, is.offset, length-append before part)
@@ -84,26 +86,26 @@ module _ (strict : Bool) (before : List ℕ) (tokens : List Token) (old new : Pa
   -- A part of the body of a byte string.
   pub bytes_tells : (left : ℕ) → old.phase ≡ p.Bytes left → length part + rest ≡ left → new.phase ≡ bytes_left rest
       → new.within ≡ old.within → new.front ≡ [] → (0 < rest → part ≡ piece)
-      → Tells strict before tokens part piece (e.Body rest) new
+      → Tells allowed before tokens part piece (e.Body rest) new
   bytes_tells left phase e next within front all =
       let point = same_point new.phase (bytes_left rest) new.within old.within new.front [] next within front in
-      let parsed = bytes_on strict before tokens old.within left
-      (at_phase strict before tokens old (p.Bytes left) is phase) part rest e in (
-        pushed_of strict (before ++ part) (grown tokens part) new _ parsed point (spelling ∙ is.spelling) counted,
+      let parsed = bytes_on allowed before tokens old.within left
+      (at_phase allowed before tokens old (p.Bytes left) is phase) part rest e in (
+        pushed_of allowed (before ++ part) (grown tokens part) new _ parsed point (spelling ∙ is.spelling) counted,
         bytes_lack rest old.within ∙ ap left_of (sym point),
         all,
       )
 
   module _ (left place : ℕ) (phase : old.phase ≡ p.Text left place) (lacks : length part + rest ≡ left) where
-    at_text : IsParsed strict before tokens (InText old.within old.front left place)
-    at_text = at_phase strict before tokens old (p.Text left place) is phase
+    at_text : IsParsed allowed before tokens (InText old.within old.front left place)
+    at_text = at_phase allowed before tokens old (p.Text left place) is phase
 
     -- A part of a text.
     pub text_tells : IsCharacters (old.front ++ part) → point_of new ≡ text_point old.within rest place
-        → Tells strict before tokens part piece (e.Text old.front rest) new
+        → Tells allowed before tokens part piece (e.Text old.front rest) new
     text_tells whole point = (
-      pushed_of strict (before ++ part) (grown tokens (old.front ++ part)) new _
-          (text_on strict before tokens old.within old.front left place at_text part rest lacks whole) point
+      pushed_of allowed (before ++ part) (grown tokens (old.front ++ part)) new _
+          (text_on allowed before tokens old.within old.front left place at_text part rest lacks whole) point
           (spelling ∙ is.spelling) counted,
       whole,
       text_lacks rest place old.within ∙ ap left_of (sym point),
@@ -112,21 +114,21 @@ module _ (strict : Bool) (before : List ℕ) (tokens : List Token) (old new : Pa
     -- More of a character that is cut.
     pub cut_tells : part ≡ piece → IsStuck (old.front ++ part) → CanEnd (old.front ++ part) rest → 0 < rest
         → point_of new ≡ InText old.within (old.front ++ part) rest place
-        → Tells strict before tokens part piece (e.Need rest) new
+        → Tells allowed before tokens part piece (e.Need rest) new
     cut_tells all held goes some point = (
       all,
-      pushed_of strict (before ++ part) tokens new _
-          (text_cut strict before tokens old.within old.front left place at_text part rest lacks held goes some) point
+      pushed_of allowed (before ++ part) tokens new _
+          (text_cut allowed before tokens old.within old.front left place at_text part rest lacks held goes some) point
           (spelling ∙ is.spelling) counted,
       ap due_of (sym point),
     )
 
     -- Bytes with which no text goes on.
     pub fault_tells : IsStuck (old.front ++ part) → (CanEnd (old.front ++ part) rest → ⊥) → point_of new ≡ AtFault place
-        → Tells strict before tokens part piece (e.Fault place) new
+        → Tells allowed before tokens part piece (e.Fault place) new
     fault_tells held stops point = (
-      pushed_of strict (before ++ part) tokens new _
-          (text_fault strict before tokens old.within old.front left place at_text part rest lacks held stops) point
+      pushed_of allowed (before ++ part) tokens new _
+          (text_fault allowed before tokens old.within old.front left place at_text part rest lacks held stops) point
           (spelling ∙ is.spelling) counted,
       point,
     )
@@ -134,13 +136,13 @@ module _ (strict : Bool) (before : List ℕ) (tokens : List Token) (old new : Pa
   -- Bytes of a title that is not whole.
   pub need_tells : old.phase ≡ p.Title → part ≡ piece → 0 < length part → 0 < rest
       → length (old.front ++ part) + rest ≡ 1 + affix_len (slice_index (old.front ++ part) 0 % 32)
-      → point_of new ≡ AtTitle old.within (old.front ++ part) → Tells strict before tokens part piece (e.Need rest) new
+      → point_of new ≡ AtTitle old.within (old.front ++ part) → Tells allowed before tokens part piece (e.Need rest) new
   need_tells phase all some due lacks point =
       let cut = cut_of (old.front ++ part) rest due lacks in (
         all,
-        pushed_of strict (before ++ part) tokens new _
-            (title_on strict before tokens old.within old.front part
-            (at_phase strict before tokens old p.Title is phase) cut) point
+        pushed_of allowed (before ++ part) tokens new _
+            (title_on allowed before tokens old.within old.front part
+            (at_phase allowed before tokens old p.Title is phase) cut) point
             (spelling ∙ is.spelling) counted,
         due_is (old.front ++ part) old.within rest (omega (arith, some, length-append old.front part)) lacks
             ∙ ap due_of (sym point),
@@ -149,17 +151,17 @@ module _ (strict : Bool) (before : List ℕ) (tokens : List Token) (old new : Pa
   -- A whole title.
   pub whole_tells : (title : List ℕ) (start end : ℕ) (event : Event) → old.phase ≡ p.Title → title ≡ old.front ++ part
       → start ≡ old.offset - length old.front → end ≡ old.offset + length part
-      → Enters old.strict old.within title start end event (point_of new)
-      → Tells strict before tokens part piece event new
+      → Enters old.spelling old.within title start end event (point_of new)
+      → Tells allowed before tokens part piece event new
   whole_tells title start end event phase e from to enters =
-      title_tells strict before part piece tokens old.within old.front title start end event new
-      (at_phase strict before tokens old p.Title is phase) e (omega (arith, from, is.offset))
+      title_tells allowed before part piece tokens old.within old.front title start end event new
+      (at_phase allowed before tokens old p.Title is phase) e (omega (arith, from, is.offset))
       (omega (arith, to, is.offset))
-      (subst (λ (s : Bool). Enters s old.within title start end event (point_of new)) is.spelling enters)
+      (subst (λ (s : Spelling). Enters s old.within title start end event (point_of new)) is.spelling enters)
       (spelling ∙ is.spelling) (offset ∙ sym to)
 
 -- An answer, by its event and what was taken.
-pub pushes_of : (strict : Bool) (before : List ℕ) (tokens : List Token) (piece : List ℕ) (pushed : Pushed)
+pub pushes_of : (allowed : Spelling) (before : List ℕ) (tokens : List Token) (piece : List ℕ) (pushed : Pushed)
     (new : Parser) (taken : ℕ) (event : Event) → pushed.taken ≡ taken → pushed.event ≡ event
-    → Tells strict before tokens (take taken piece) piece event new → Pushes strict before tokens piece pushed new
-pushes_of strict before tokens piece pushed new taken event a b tells = rw (a, b) tells
+    → Tells allowed before tokens (take taken piece) piece event new → Pushes allowed before tokens piece pushed new
+pushes_of allowed before tokens piece pushed new taken event a b tells = rw (a, b) tells

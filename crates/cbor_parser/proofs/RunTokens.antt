@@ -1,6 +1,7 @@
 -- Elements are whole tokens.
-use Rattle.std.proofs.Common.{◌≡◌, ℕ, zero, suc, false, List, [], ◌∷◌, ◌++◌, length, Some, None, refl, sym, subst}
+use Rattle.std.proofs.Common.{◌≡◌, ℕ, zero, suc, List, [], ◌∷◌, ◌++◌, length, Some, None, refl, sym, subst}
 use Rattle.std.proofs.Common.{append-nil, append_assoc}
+use Rattle.ciborium_ll_grammar.specs.declared.spelling.Spelling.TheVariants.{Any}
 use Rattle.ciborium_ll_grammar.specs.declared.hdr.Header.{Header}
 use Rattle.ciborium_ll_grammar.specs.declared.hdr.Header.TheVariants as h
 use Rattle.ciborium_ll_grammar.specs.Title.{IsTitle}
@@ -25,22 +26,22 @@ place_of Text (suc m) = w.Text m
 -- The bytes are some tokens, and these strings are open after them.
 record Tokens (bytes : List ℕ) (v : Within) : Type 0 where
   tokens : List Token
-  are : AreTokens false bytes tokens v
+  are : AreTokens Any bytes tokens v
 
 definite_stands : (k : Kind) (j n : ℕ)
-    → within_after false (place_of k j) (kind_header k (Some n)) ≡ Some (place_of k j)
+    → within_after Any (place_of k j) (kind_header k (Some n)) ≡ Some (place_of k j)
 definite_stands Bytes zero n = refl
 definite_stands Text zero n = refl
 definite_stands Bytes (suc j) n = refl
 definite_stands Text (suc j) n = refl
 
-open_stands : (k : Kind) (j : ℕ) → within_after false (place_of k j) (kind_header k None) ≡ Some (place_of k (suc j))
+open_stands : (k : Kind) (j : ℕ) → within_after Any (place_of k j) (kind_header k None) ≡ Some (place_of k (suc j))
 open_stands Bytes zero = refl
 open_stands Text zero = refl
 open_stands Bytes (suc j) = refl
 open_stands Text (suc j) = refl
 
-break_stands : (k : Kind) (j : ℕ) → within_after false (place_of k (suc j)) h.Break ≡ Some (place_of k j)
+break_stands : (k : Kind) (j : ℕ) → within_after Any (place_of k (suc j)) h.Break ≡ Some (place_of k j)
 break_stands Bytes zero = refl
 break_stands Text zero = refl
 break_stands Bytes (suc j) = refl
@@ -63,7 +64,7 @@ open_body Bytes = tt
 open_body Text = IsCharacters-nil
 
 -- One token more.
-add : (d t y : List ℕ) (x : Header) (u v : Within) → Tokens d u → IsTitle t x → within_after false u x ≡ Some v
+add : (d t y : List ℕ) (x : Header) (u v : Within) → Tokens d u → IsTitle t x → within_after Any u x ≡ Some v
     → length y ≡ body_len x → IsBody x y → Tokens (d ++ (t ++ y)) v
 add d t y x u v o is stands long text =
     record {
@@ -72,7 +73,7 @@ add d t y x u v o is stands long text =
     }
 
 -- One token more, without a body.
-add_title : (d t : List ℕ) (x : Header) (u v : Within) → Tokens d u → IsTitle t x → within_after false u x ≡ Some v
+add_title : (d t : List ℕ) (x : Header) (u v : Within) → Tokens d u → IsTitle t x → within_after Any u x ≡ Some v
     → 0 ≡ body_len x → IsBody x [] → Tokens (d ++ t) v
 add_title d t x u v o is stands long text =
     subst (λ (z : List ℕ). Tokens (d ++ z) v) (append-nil t) (add d t [] x u v o is stands long text)
@@ -115,6 +116,6 @@ run_on n b ms (next {first = f} {rest = r} {marks = ns} {others = os} one others
 
 -- Elements are whole tokens.
 pub run_tokens : (n : ℕ) (b : List ℕ) (ms : List Mark) → IsRun n b ms
-    → (tokens : List Token) × AreTokens false b tokens w.Nothing
+    → (tokens : List Token) × AreTokens Any b tokens w.Nothing
 run_tokens n b ms run =
     let o = run_on n b ms run [] (record { tokens = []; are = none }) in (o.tokens, o.are)

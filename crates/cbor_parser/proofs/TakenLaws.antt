@@ -1,5 +1,7 @@
 -- Titles that are taken, and titles that are not.
-use Rattle.std.proofs.Common.{◌≡◌, ℕ, Bool, true, false, List, length, sym, ap, arith, inl, inr}
+use Rattle.std.proofs.Common.{◌≡◌, ℕ, List, length, sym, ap, arith, inl, inr}
+use Rattle.ciborium_ll_grammar.specs.declared.spelling.Spelling.{Spelling}
+use Rattle.ciborium_ll_grammar.specs.declared.spelling.Spelling.TheVariants.{Any, Shortest}
 use Rattle.ciborium_ll_grammar.specs.declared.hdr.Header.{Header}
 use Rattle.ciborium_ll_grammar.specs.Title.{IsTitle, IsSmallSimple, shortest_title, title_len}
 use Rattle.ciborium_ll_grammar.specs.Items.{IsTakenTitle}
@@ -14,12 +16,13 @@ shortest_of title header is_title same = (elim (shortest_or_longer header title 
 ])
 
 -- Such a title is taken, if it is of no simple value from 24 to 31.
-pub taken_of : (strict : Bool) (title : List ℕ) (header : Header) → IsTitle title header
-    → title_len header ≡ length title → (IsSmallSimple header → ⊥) → IsTakenTitle strict title header
-taken_of true title header is_title same meant =
+pub taken_of : (allowed : Spelling) (title : List ℕ) (header : Header) → IsTitle title header
+    → title_len header ≡ length title → (IsSmallSimple header → ⊥) → IsTakenTitle allowed title header
+taken_of Shortest title header is_title same meant =
     record { shortest = shortest_of title header is_title same; meant = meant }
-taken_of false title header is_title same meant = tt
+taken_of Any title header is_title same meant = tt
 
 -- A strict title is as short as the shortest one.
-pub taken_len : (title : List ℕ) (header : Header) → IsTakenTitle true title header → title_len header ≡ length title
+pub taken_len : (title : List ℕ) (header : Header) → IsTakenTitle Shortest title header
+    → title_len header ≡ length title
 taken_len title header taken = ap length (sym taken.shortest)

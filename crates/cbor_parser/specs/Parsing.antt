@@ -1,5 +1,6 @@
 -- Bytes as titles and the bodies of strings (RFC 7049, 2.1 to 2.4), and where some bytes have come to.
-use Rattle.std.specs.Prelude.{◌≡◌, ℕ, ◌+◌, ◌-◌, ◌%◌, ◌<◌, ◌⊎◌, Bool, List, [], ◌∷◌, ◌++◌, length, Some, None}
+use Rattle.std.specs.Prelude.{◌≡◌, ℕ, ◌+◌, ◌-◌, ◌%◌, ◌<◌, ◌⊎◌, List, [], ◌∷◌, ◌++◌, length, Some, None}
+use Rattle.ciborium_ll_grammar.specs.declared.spelling.Spelling.{Spelling}
 use Rattle.ciborium_ll_grammar.specs.declared.hdr.Header.{Header}
 use Rattle.ciborium_ll_grammar.specs.declared.hdr.Header.TheVariants as h
 use Rattle.ciborium_ll_grammar.specs.Title.{IsTitle, IsCutTitle, BeginsRefused, affix_len}
@@ -38,36 +39,36 @@ IsBody header body = Unit {0}
 
 -- The bytes are a title of this header, it is taken, and it may stand within the strings `before`. After it `after` are
 -- open (RFC 7049, 2.2.2 and 3.9). Within `5f`, the title `41` is such a title.
-pub record IsTitleIn (strict : Bool) (before : Within) (title : List ℕ) (header : Header) (after : Within) :
+pub record IsTitleIn (allowed : Spelling) (before : Within) (title : List ℕ) (header : Header) (after : Within) :
     Type 0 where
   pub is_title : IsTitle title header
-  pub taken : IsTakenTitle strict title header
-  pub stands : within_after strict before header ≡ Some after
+  pub taken : IsTakenTitle allowed title header
+  pub stands : within_after allowed before header ≡ Some after
 
 -- The bytes are whole titles, each with its body, and these are their tokens, the last one first. The strings `within`
 -- are open after them (RFC 7049, 2.1). `82 41 05` are the tokens `Bytes(Some(1))` with the body `05`, and
 -- `Array(Some(2))`.
-pub data AreTokens (strict : Bool) : List ℕ → List Token → Within → Type 0 where
-  none : AreTokens strict [] [] w.Nothing
+pub data AreTokens (allowed : Spelling) : List ℕ → List Token → Within → Type 0 where
+  none : AreTokens allowed [] [] w.Nothing
   more : {before title body : List ℕ} {header : Header} {tokens : List Token} {within after : Within}
-      → AreTokens strict before tokens within → IsTitleIn strict within title header after
+      → AreTokens allowed before tokens within → IsTitleIn allowed within title header after
       → length body ≡ body_len header → IsBody header body
-      → AreTokens strict (before ++ (title ++ body)) (token header body ∷ tokens) after
+      → AreTokens allowed (before ++ (title ++ body)) (token header body ∷ tokens) after
 
 -- ---- faults
 
 -- The bytes are no title that is taken: none begins so, or it is one that only a reader of any spelling takes (RFC
--- 7049, 2.1 and 3.9). So it is with `1c`, and if `strict` with `18 01`.
-abbrev pub IsNoTakenTitle : Bool → List ℕ → Type 0
-IsNoTakenTitle strict title =
-    BeginsRefused title ⊎ ((header : Header) × IsTitle title header × (IsTakenTitle strict title header → ⊥))
+-- 7049, 2.1 and 3.9). So it is with `1c`, and for `Shortest` with `18 01`.
+abbrev pub IsNoTakenTitle : Spelling → List ℕ → Type 0
+IsNoTakenTitle allowed title =
+    BeginsRefused title ⊎ ((header : Header) × IsTitle title header × (IsTakenTitle allowed title header → ⊥))
 
 -- The bytes are no title that may stand within these strings: none that is taken, or one of another kind (RFC 7049,
 -- 2.2.2). So it is with `1c`, and within `5f` with `61`.
-abbrev pub IsNoTitleIn : Bool → Within → List ℕ → Type 0
-IsNoTitleIn strict within title =
-    IsNoTakenTitle strict title
-    ⊎ ((header : Header) × IsTitle title header × (within_after strict within header ≡ None))
+abbrev pub IsNoTitleIn : Spelling → Within → List ℕ → Type 0
+IsNoTitleIn allowed within title =
+    IsNoTakenTitle allowed title
+    ⊎ ((header : Header) × IsTitle title header × (within_after allowed within header ≡ None))
 
 -- This many more bytes may end a text that begins so. One more byte may end `c3`, and none may end `c3` or `ff`.
 abbrev pub CanEnd : List ℕ → ℕ → Type 0
@@ -111,22 +112,22 @@ pub data IsPart (within : Within) (place : ℕ) : Header → List ℕ → List �
       → length body + (length carried + left) ≡ len
       → IsPart within place (h.Text (Some len)) (body ++ carried) body (AtFault place)
 
--- `IsParsed strict bytes tokens point`: the bytes are these tokens, the last one first, and lead to the point. The last
--- token may have a part of its body (RFC 7049, 2.1 to 2.4). `82 42 05` are `Bytes(Some(2))` with the part `05` of a
--- body, and `Array(Some(2))`, and a byte is due.
-pub data IsParsed (strict : Bool) (bytes : List ℕ) : List Token → Point → Type 0 where
+-- `IsParsed allowed bytes tokens point`: the bytes are these tokens, the last one first, and lead to the point. The
+-- last token may have a part of its body (RFC 7049, 2.1 to 2.4). `82 42 05` are `Bytes(Some(2))` with the part `05` of
+-- a body, and `Array(Some(2))`, and a byte is due.
+pub data IsParsed (allowed : Spelling) (bytes : List ℕ) : List Token → Point → Type 0 where
   -- A title is due, or goes on, as after `82 19`.
-  at_title : {done title : List ℕ} {tokens : List Token} {within : Within} → AreTokens strict done tokens within
-      → IsCutTitle title → bytes ≡ done ++ title → IsParsed strict bytes tokens (AtTitle within title)
+  at_title : {done title : List ℕ} {tokens : List Token} {within : Within} → AreTokens allowed done tokens within
+      → IsCutTitle title → bytes ≡ done ++ title → IsParsed allowed bytes tokens (AtTitle within title)
   -- No title that is taken, or that may stand there, comes after the tokens, as in `82 1c`.
-  no_title : {done title : List ℕ} {tokens : List Token} {within : Within} → AreTokens strict done tokens within
-      → IsNoTitleIn strict within title → bytes ≡ done ++ title → IsParsed strict bytes tokens (AtFault (length done))
+  no_title : {done title : List ℕ} {tokens : List Token} {within : Within} → AreTokens allowed done tokens within
+      → IsNoTitleIn allowed within title → bytes ≡ done ++ title → IsParsed allowed bytes tokens (AtFault (length done))
   -- A body goes on, as after `82 42 05`. Or it is no text, as in `61 ff`.
   in_body : {done title part body : List ℕ} {header : Header} {tokens : List Token} {before within : Within}
-      {point : Point} → AreTokens strict done tokens before → IsTitleIn strict before title header within
+      {point : Point} → AreTokens allowed done tokens before → IsTitleIn allowed before title header within
       → IsPart within (text_place before (length done) (length (done ++ title)) header) header part body point
       → bytes ≡ done ++ (title ++ part)
-      → IsParsed strict bytes (token header body ∷ tokens) point
+      → IsParsed allowed bytes (token header body ∷ tokens) point
 
 -- The point of a phase, with the strings that are open and the bytes that are kept: for `Title` and `19` it is
 -- `AtTitle` with `19`.

@@ -1,5 +1,7 @@
 -- What a parser waits for, and the strings of indefinite length that are open (RFC 7049, 2.2.2).
 use Rattle.std.specs.Prelude.{ℕ, zero, suc, ◌-◌, ◌%◌, Bool, true, false, List, [], Option, Some, None, slice_index}
+use Rattle.ciborium_ll_grammar.specs.declared.spelling.Spelling.{Spelling}
+use Rattle.ciborium_ll_grammar.specs.declared.spelling.Spelling.TheVariants.{Any, Shortest}
 use Rattle.ciborium_ll_grammar.specs.declared.hdr.Header.{Header}
 use Rattle.ciborium_ll_grammar.specs.declared.hdr.Header.TheVariants as h
 use Rattle.ciborium_ll_grammar.specs.declared.limits.TheConstants.{MOST_KEPT}
@@ -29,25 +31,25 @@ closed_text (suc more) = w.Text more
 
 -- If only the shortest spelling is taken, no string of indefinite length stands within another one (RFC 7049, 2.2.2).
 -- Then `5f 5f` is refused.
-abbrev pub deeper : Bool → Within → Option Within
-deeper true within = None
-deeper false within = Some within
+abbrev pub deeper : Spelling → Within → Option Within
+deeper Shortest within = None
+deeper Any within = Some within
 
 -- The strings that are open after a title of this header within byte strings, if it may stand there (RFC 7049, 2.2.2).
 -- After `5f`, the title `41` may stand there, and `61` may not.
-abbrev pub within_bytes : Bool → ℕ → Header → Option Within
-within_bytes strict more (h.Bytes (Some len)) = Some (w.Bytes more)
-within_bytes strict more (h.Bytes None) = deeper strict (w.Bytes (suc more))
-within_bytes strict more h.Break = Some (closed_bytes more)
-within_bytes strict more header = None
+abbrev pub within_bytes : Spelling → ℕ → Header → Option Within
+within_bytes allowed more (h.Bytes (Some len)) = Some (w.Bytes more)
+within_bytes allowed more (h.Bytes None) = deeper allowed (w.Bytes (suc more))
+within_bytes allowed more h.Break = Some (closed_bytes more)
+within_bytes allowed more header = None
 
 -- The strings that are open after a title of this header within texts, if it may stand there (RFC 7049, 2.2.2). After
 -- `7f`, the title `61` may stand there, and `41` may not.
-abbrev pub within_text : Bool → ℕ → Header → Option Within
-within_text strict more (h.Text (Some len)) = Some (w.Text more)
-within_text strict more (h.Text None) = deeper strict (w.Text (suc more))
-within_text strict more h.Break = Some (closed_text more)
-within_text strict more header = None
+abbrev pub within_text : Spelling → ℕ → Header → Option Within
+within_text allowed more (h.Text (Some len)) = Some (w.Text more)
+within_text allowed more (h.Text None) = deeper allowed (w.Text (suc more))
+within_text allowed more h.Break = Some (closed_text more)
+within_text allowed more header = None
 
 -- The strings that are open after a title of this header, if none is open before it. `5f` and `7f` open one.
 abbrev pub opened : Header → Within
@@ -57,10 +59,10 @@ opened header = w.Nothing
 
 -- The strings that are open after a title of this header, if it may stand here (RFC 7049, 2.2.2). After `5f 5f`, a
 -- break leaves one open.
-abbrev pub within_after : Bool → Within → Header → Option Within
-within_after strict w.Nothing header = Some (opened header)
-within_after strict (w.Bytes more) header = within_bytes strict more header
-within_after strict (w.Text more) header = within_text strict more header
+abbrev pub within_after : Spelling → Within → Header → Option Within
+within_after allowed w.Nothing header = Some (opened header)
+within_after allowed (w.Bytes more) header = within_bytes allowed more header
+within_after allowed (w.Text more) header = within_text allowed more header
 
 -- The place of the fault of a text whose title stands from `start` to `end`. Within a string it is the start. Otherwise
 -- it is the end less the length of the shortest title: late, if the title is a longer one. For `78 01 ff` it is 1.

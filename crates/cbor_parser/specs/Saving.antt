@@ -1,6 +1,8 @@
 -- A parser as plain numbers, which a caller keeps in its own memory.
-use Rattle.std.specs.Prelude.{◌≡◌, ◌==◌, ◌≤◌, ℕ, Bool, true, false, List, Option, Some, None, if◌then◌else◌, length}
+use Rattle.std.specs.Prelude.{◌≡◌, ◌==◌, ◌≤◌, ℕ, true, List, Option, Some, None, if◌then◌else◌, length}
 use Rattle.std.specs.Prelude.{take}
+use Rattle.ciborium_ll_grammar.specs.declared.spelling.Spelling.{Spelling}
+use Rattle.ciborium_ll_grammar.specs.declared.spelling.Spelling.TheVariants.{Any, Shortest}
 use Rattle.ciborium_ll_grammar.specs.declared.limits.TheConstants.{LONGEST_TITLE}
 use Rattle.ciborium_ll_text.specs.Text.{IsStuck}
 use Rattle.cbor_parser.specs.declared.parser.Parser.{Parser}
@@ -22,9 +24,9 @@ phase_in kind number place =
     (if kind == 3 then Some (p.Text number place) else
     (if kind == 4 then Some (p.Faulted number) else None)))
 
--- Whether only the shortest spelling is taken, by a number: 0 is no, 1 is yes, and 2 is neither.
-abbrev pub strict_in : ℕ → Option Bool
-strict_in number = if number == 0 then Some false else (if number == 1 then Some true else None)
+-- The spelling that is taken, by a number: 0 is any, 1 is the shortest alone, and 2 is neither.
+abbrev pub spelling_in : ℕ → Option Spelling
+spelling_in number = if number == 0 then Some Any else (if number == 1 then Some Shortest else None)
 
 -- The strings that are open, by the number of their kind and how many there are within the first. Kind 1 with the
 -- number 1 is two open byte strings, as after `5f 5f`.
@@ -46,7 +48,7 @@ pub record IsState (phase : Phase) (front : List ℕ) (within : Within) (offset 
 -- the offset 2.
 pub record Holds (saved : Saved) (parser : Parser) : Type 0 where
   pub phase : phase_in saved.phase saved.number saved.place ≡ Some parser.phase
-  pub strict : strict_in saved.strict ≡ Some parser.strict
+  pub strict : spelling_in saved.strict ≡ Some parser.spelling
   pub kept : take saved.kept_len saved.kept ≡ parser.front
   pub few : saved.kept_len ≤ LONGEST_TITLE
   pub within : within_in saved.strings saved.more ≡ Some parser.within
@@ -54,7 +56,7 @@ pub record Holds (saved : Saved) (parser : Parser) : Type 0 where
 
 -- The plain numbers are those of a parser to which these bytes were pushed, and which found these tokens (RFC 7049, 2.1
 -- to 2.4). Numbers that a parser saved after `82 19` keep `82 19` and the token `Array(Some(2))`.
-pub record Keeps (strict : Bool) (bytes : List ℕ) (tokens : List Token) (saved : Saved) : Type 0 where
+pub record Keeps (allowed : Spelling) (bytes : List ℕ) (tokens : List Token) (saved : Saved) : Type 0 where
   pub parser : Parser
   pub holds : Holds saved parser
-  pub pushed : HasPushed strict bytes tokens parser
+  pub pushed : HasPushed allowed bytes tokens parser

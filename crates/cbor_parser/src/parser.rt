@@ -3,10 +3,12 @@
 ghost use Rattle.std.specs.Prelude.{◌≡◌, ◌≤◌, length, true};
 ghost use Rattle.ciborium_ll_text.specs.Text.{IsStuck};
 ghost use Rattle.cbor_parser.specs.Phases.{carried_of, has_left, most_front, open_count};
+ghost use Rattle.ciborium_ll_grammar.specs.declared.spelling.Spelling.{Spelling};
+ghost use Rattle.ciborium_ll_grammar.specs.declared.spelling.Spelling.TheVariants.{Any, Shortest};
 
 use crate::event::{Event, Pushed, title_event};
 use crate::phase::{Phase, Within};
-use crate::saved::{Saved, is_state, strict_of};
+use crate::saved::{Saved, is_state, spelling_of};
 use crate::title::{add, taken_header};
 use ciborium_ll_grammar::few::Few;
 use ciborium_ll_grammar::hdr::table::row_of;
@@ -23,7 +25,7 @@ const CHARACTER: usize = 4;
 /// its body, and checks which ones stand within a string of indefinite length.
 #[derive(Drop)]
 pub struct Parser {
-    strict: bool,
+    spelling: Spelling,
     phase: Phase,
     front: Few,
     within: Within,
@@ -43,12 +45,11 @@ impl Parser {
     ghost use Rattle.cbor_parser.specs.declared.event.Event.TheVariants as e;
     ghost use Rattle.cbor_parser.specs.declared.phase.Phase.TheVariants as p;
     ghost use Rattle.cbor_parser.specs.declared.phase.Within.TheVariants as w;
-    ghost use Rattle.ciborium_ll_grammar.specs.Spellings.{is_shortest};
     ghost use Rattle.ciborium_ll_grammar.specs.Title.{affix_len};
 
     /// Makes a parser that takes any spelling, to which no byte was pushed.
     pub fn new() -> Parser
-        ensures { HasPushed false [] [] result }
+        ensures { HasPushed Any [] [] result }
     {
         Parser::with_spelling(Spelling::Any)
     }
@@ -58,17 +59,17 @@ impl Parser {
     /// Each title is the shortest of its header, no simple value from 24 to 31 occurs, and strings within an open
     /// string have a definite length. Any other title is a fault at its offset.
     pub fn strict() -> Parser
-        ensures { HasPushed true [] [] result }
+        ensures { HasPushed Shortest [] [] result }
     {
         Parser::with_spelling(Spelling::Shortest)
     }
 
     /// Makes the parser of [`Parser::new`] for `Any`, and that of [`Parser::strict`] for `Shortest`.
     pub fn with_spelling(spelling: Spelling) -> Parser
-        ensures { HasPushed (is_shortest spelling) [] [] result }
+        ensures { HasPushed spelling [] [] result }
     {
         Parser {
-            strict: spelling.is_shortest(),
+            spelling,
             phase: Phase::Title,
             front: Few::new(),
             within: Within::Nothing,
@@ -78,7 +79,8 @@ impl Parser {
 
     /// Returns how many bytes were pushed and taken.
     pub fn offset(&self) -> usize
-        ensures { (strict : Bool) (before : List ℕ) (tokens : List Token) → HasPushed strict before tokens self.now
+        ensures { (allowed : Spelling) (before : List ℕ) (tokens : List Token) → HasPushed allowed before tokens
+            self.now
             → result ≡ length before }
     {
         self.offset
@@ -108,8 +110,8 @@ impl Parser {
     pub fn is_between(&self) -> bool
         ensures yes { result ≡ true → point_of self.now ≡ AtTitle w.Nothing [] }
         ensures no { point_of self.now ≡ AtTitle w.Nothing [] → result ≡ true }
-        ensures whole { (strict : Bool) (before : List ℕ) (tokens : List Token) → result ≡ true
-            → HasPushed strict before tokens self.now → AreTokens strict before tokens w.Nothing }
+        ensures whole { (allowed : Spelling) (before : List ℕ) (tokens : List Token) → result ≡ true
+            → HasPushed allowed before tokens self.now → AreTokens allowed before tokens w.Nothing }
     {
         match (self.phase, self.within) {
             (Phase::Title, Within::Nothing) => self.front.len() == 0,
@@ -128,8 +130,8 @@ impl Parser {
     pub fn push(&mut self, bytes: &[u8]) -> Pushed
         ensures taken { result.taken ≤ length bytes.now }
         ensures some { 0 < length bytes.now → (0 < result.taken) ⊎ Stops result.event }
-        ensures pushed { (strict : Bool) (before : List ℕ) (tokens : List Token)
-            → HasPushed strict before tokens self.old → Pushes strict before tokens bytes.now result self.new }
+        ensures pushed { (allowed : Spelling) (before : List ℕ) (tokens : List Token)
+            → HasPushed allowed before tokens self.old → Pushes allowed before tokens bytes.now result self.new }
         ensures stays { (place : ℕ) → point_of self.old ≡ AtFault place
             → (result.taken ≡ 0) × (result.event ≡ e.Fault place) × (self.new ≡ self.old) }
     {
@@ -162,8 +164,8 @@ impl Parser {
     /// Returns the parser as plain numbers.
     pub fn save(&self) -> Saved
         ensures holds { Holds result self.now }
-        ensures keeps { (strict : Bool) (before : List ℕ) (tokens : List Token)
-            → HasPushed strict before tokens self.now → Keeps strict before tokens result }
+        ensures keeps { (allowed : Spelling) (before : List ℕ) (tokens : List Token)
+            → HasPushed allowed before tokens self.now → Keeps allowed before tokens result }
     {
         let (phase, number, place) = self.phase.numbers();
         let (strings, more) = self.within.numbers();
@@ -177,20 +179,20 @@ impl Parser {
             kept_len: kept_len as u8,
             phase,
             strings,
-            strict: u8::from(self.strict),
+            strict: u8::from(self.spelling.is_shortest()),
         }
     }
 
     /// Returns the parser that these numbers hold, or `None` if they are the numbers of no parser.
     pub fn restore(saved: Saved) -> Option<Parser>
-        ensures kept { (strict : Bool) (before : List ℕ) (tokens : List Token) → Keeps strict before tokens saved
-            → IsSomeAnd result (HasPushed strict before tokens) }
+        ensures kept { (allowed : Spelling) (before : List ℕ) (tokens : List Token) → Keeps allowed before tokens saved
+            → IsSomeAnd result (HasPushed allowed before tokens) }
         ensures some { IfSome result (Holds saved) }
         ensures none { IfNone result ((parser : Parser) → Holds saved parser → ⊥) }
     {
         let phase = Phase::of(saved.phase, saved.number as usize, saved.place as usize)?;
         let within = Within::of(saved.strings, saved.more as usize)?;
-        let strict = strict_of(saved.strict)?;
+        let spelling = spelling_of(saved.strict)?;
         let len = usize::from(saved.kept_len);
         if len > LONGEST_TITLE {
             return None;
@@ -201,7 +203,7 @@ impl Parser {
             return None;
         }
         Some(Parser {
-            strict,
+            spelling,
             phase,
             front,
             within,
@@ -216,8 +218,8 @@ impl Parser {
         requires room { self.old.offset + length bytes.now ≤ usize.MAX }
         ensures taken { result.taken ≤ length bytes.now }
         ensures some { 0 < result.taken }
-        ensures pushed { (strict : Bool) (before : List ℕ) (tokens : List Token)
-            → HasPushed strict before tokens self.old → Pushes strict before tokens bytes.now result self.new }
+        ensures pushed { (allowed : Spelling) (before : List ℕ) (tokens : List Token)
+            → HasPushed allowed before tokens self.old → Pushes allowed before tokens bytes.now result self.new }
     {
         let due = self.title_due(bytes);
         if bytes.len() < due {
@@ -259,16 +261,16 @@ impl Parser {
         requires fresh { self.old.front ≡ [] }
         requires long { length title.now ≡ 1 + affix_len (slice_index title.now 0 % 32) }
         requires counted { open_count self.old.within < self.old.offset }
-        ensures entered { Enters self.old.strict self.old.within title.now start self.old.offset result
+        ensures entered { Enters self.old.spelling self.old.within title.now start self.old.offset result
             (point_of self.new) }
-        ensures strict { self.new.strict ≡ self.old.strict }
+        ensures spelling { self.new.spelling ≡ self.old.spelling }
         ensures offset { self.new.offset ≡ self.old.offset }
     {
         let end = self.offset;
-        let Some(header) = taken_header(title, self.strict) else {
+        let Some(header) = taken_header(title, self.spelling) else {
             return self.refuse(start);
         };
-        let Some(within) = self.within.after(self.strict, header) else {
+        let Some(within) = self.within.after(self.spelling, header) else {
             return self.refuse(start);
         };
         let event = title_event(self.within, header, start);
@@ -282,7 +284,7 @@ impl Parser {
         requires { self.old.front ≡ [] }
         ensures event { result ≡ e.Fault place }
         ensures point { point_of self.new ≡ AtFault place }
-        ensures strict { self.new.strict ≡ self.old.strict }
+        ensures spelling { self.new.spelling ≡ self.old.spelling }
         ensures offset { self.new.offset ≡ self.old.offset }
     {
         self.phase = Phase::Faulted(place);
@@ -296,8 +298,8 @@ impl Parser {
         requires room { self.old.offset + length bytes.now ≤ usize.MAX }
         ensures taken { result.taken ≤ length bytes.now }
         ensures some { 0 < result.taken }
-        ensures pushed { (strict : Bool) (before : List ℕ) (tokens : List Token)
-            → HasPushed strict before tokens self.old → Pushes strict before tokens bytes.now result self.new }
+        ensures pushed { (allowed : Spelling) (before : List ℕ) (tokens : List Token)
+            → HasPushed allowed before tokens self.old → Pushes allowed before tokens bytes.now result self.new }
     {
         let taken = left.min(bytes.len());
         self.front.clear();
@@ -316,8 +318,8 @@ impl Parser {
         requires room { self.old.offset + length bytes.now ≤ usize.MAX }
         ensures taken { result.taken ≤ length bytes.now }
         ensures some { 0 < result.taken }
-        ensures pushed { (strict : Bool) (before : List ℕ) (tokens : List Token)
-            → HasPushed strict before tokens self.old → Pushes strict before tokens bytes.now result self.new }
+        ensures pushed { (allowed : Spelling) (before : List ℕ) (tokens : List Token)
+            → HasPushed allowed before tokens self.old → Pushes allowed before tokens bytes.now result self.new }
     {
         if self.front.len() > 0 {
             return self.push_character(left, place, bytes);
@@ -338,7 +340,7 @@ impl Parser {
         ensures taken { result.taken ≡ taken }
         ensures event { result.event ≡ e.Text self.old.front (left - taken) }
         ensures point { point_of self.new ≡ text_point self.old.within (left - taken) place }
-        ensures strict { self.new.strict ≡ self.old.strict }
+        ensures spelling { self.new.spelling ≡ self.old.spelling }
         ensures offset { self.new.offset ≡ self.old.offset + taken }
     {
         let carried = self.front.take();
@@ -360,8 +362,8 @@ impl Parser {
         requires room { self.old.offset + length bytes.now ≤ usize.MAX }
         ensures taken { result.taken ≤ length bytes.now }
         ensures some { 0 < result.taken }
-        ensures pushed { (strict : Bool) (before : List ℕ) (tokens : List Token)
-            → HasPushed strict before tokens self.old → Pushes strict before tokens bytes.now result self.new }
+        ensures pushed { (allowed : Spelling) (before : List ℕ) (tokens : List Token)
+            → HasPushed allowed before tokens self.old → Pushes allowed before tokens bytes.now result self.new }
     {
         let len = left.min(bytes.len()).min(CHARACTER);
         let mut joined = self.front.copy();

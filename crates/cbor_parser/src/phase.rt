@@ -5,6 +5,7 @@ ghost use Rattle.cbor_parser.specs.Phases.{bytes_left, has_left, open_count, pha
 ghost use Rattle.cbor_parser.specs.Phases.{within_after};
 
 use ciborium_ll_grammar::hdr::Header;
+use ciborium_ll_grammar::spelling::Spelling;
 
 /// What a parser waits for.
 #[derive(Clone, Copy)]
@@ -57,46 +58,49 @@ impl Within {
         }
     }
 
-    /// Returns `within`, unless `strict`: then no string of indefinite length may stand within another one.
-    fn deeper(strict: bool, within: Within) -> Option<Within>
-        ensures { result ≡ deeper strict within }
+    /// Returns `within` for `Any`. For `Shortest` no string of indefinite length may stand within another one.
+    fn deeper(spelling: Spelling, within: Within) -> Option<Within>
+        ensures { result ≡ deeper spelling within }
     {
-        if strict { None } else { Some(within) }
+        match spelling {
+            Spelling::Any => Some(within),
+            Spelling::Shortest => None,
+        }
     }
 
     /// Returns the strings that are open after a title within `more + 1` byte strings, or `None` if it may not stand
     /// there.
-    fn after_in_bytes(strict: bool, more: usize, header: Header) -> Option<Within>
+    fn after_in_bytes(spelling: Spelling, more: usize, header: Header) -> Option<Within>
         requires { more < usize.MAX }
-        ensures is { result ≡ within_bytes strict more header }
+        ensures is { result ≡ within_bytes spelling more header }
         ensures counted { IfSome result (λ within. open_count within ≤ more + 2) }
     {
         match header {
             Header::Bytes(Some(_)) => Some(Within::Bytes(more)),
-            Header::Bytes(None) => Within::deeper(strict, Within::Bytes(more + 1)),
+            Header::Bytes(None) => Within::deeper(spelling, Within::Bytes(more + 1)),
             Header::Break => Some(Within::closed_bytes(more)),
             _ => None,
         }
     }
 
     /// Returns the strings that are open after a title within `more + 1` texts, or `None` if it may not stand there.
-    fn after_in_text(strict: bool, more: usize, header: Header) -> Option<Within>
+    fn after_in_text(spelling: Spelling, more: usize, header: Header) -> Option<Within>
         requires { more < usize.MAX }
-        ensures is { result ≡ within_text strict more header }
+        ensures is { result ≡ within_text spelling more header }
         ensures counted { IfSome result (λ within. open_count within ≤ more + 2) }
     {
         match header {
             Header::Text(Some(_)) => Some(Within::Text(more)),
-            Header::Text(None) => Within::deeper(strict, Within::Text(more + 1)),
+            Header::Text(None) => Within::deeper(spelling, Within::Text(more + 1)),
             Header::Break => Some(Within::closed_text(more)),
             _ => None,
         }
     }
 
     /// Returns the strings that are open after a title of this header, or `None` if it may not stand here.
-    pub(crate) fn after(self, strict: bool, header: Header) -> Option<Within>
+    pub(crate) fn after(self, spelling: Spelling, header: Header) -> Option<Within>
         requires { open_count self ≤ usize.MAX }
-        ensures is { result ≡ within_after strict self header }
+        ensures is { result ≡ within_after spelling self header }
         ensures counted { IfSome result (λ within. open_count within ≤ open_count self + 1) }
     {
         match self {
@@ -105,8 +109,8 @@ impl Within {
                 Header::Text(None) => Some(Within::Text(0)),
                 _ => Some(Within::Nothing),
             },
-            Within::Bytes(more) => Within::after_in_bytes(strict, more, header),
-            Within::Text(more) => Within::after_in_text(strict, more, header),
+            Within::Bytes(more) => Within::after_in_bytes(spelling, more, header),
+            Within::Text(more) => Within::after_in_text(spelling, more, header),
         }
     }
 

@@ -3,12 +3,13 @@
 ghost use Rattle.std.specs.Prelude.{◌≡◌, ◌≤◌, length, true, Some};
 ghost use Rattle.ciborium_ll_text.specs.Text.{IsStuck};
 ghost use Rattle.cbor_parser.specs.Phases.{carried_of, has_left, most_front, open_count};
-ghost use Rattle.cbor_parser.specs.Saving.{IsState, phase_in, strict_in, within_in};
+ghost use Rattle.cbor_parser.specs.Saving.{IsState, phase_in, spelling_in, within_in};
 
 use crate::phase::{Phase, Within};
 use ciborium_ll_grammar::few::Few;
 use ciborium_ll_grammar::hdr::table::row_of;
 use ciborium_ll_grammar::limits::{LONGEST_TITLE, MOST_KEPT};
+use ciborium_ll_grammar::spelling::Spelling;
 use ciborium_ll_text::state::{State, text_front};
 
 /// The state of a [`Parser`](crate::Parser) as plain numbers, for a caller that keeps it in memory of its own.
@@ -142,13 +143,13 @@ impl Within {
     }
 }
 
-/// Returns whether the parser takes the shortest spelling only: 0 is no, 1 is yes.
-pub(crate) fn strict_of(number: u8) -> Option<bool>
-    ensures { result ≡ strict_in number }
+/// Returns which spellings the parser takes: 0 is any, and 1 is the shortest only.
+pub(crate) fn spelling_of(number: u8) -> Option<Spelling>
+    ensures { result ≡ spelling_in number }
 {
     match number {
-        0 => Some(false),
-        1 => Some(true),
+        0 => Some(Spelling::Any),
+        1 => Some(Spelling::Shortest),
         _ => None,
     }
 }

@@ -1,6 +1,8 @@
 -- If an item is due within a whole item, it comes. So nothing stops the read of bytes that begin with a whole item.
-use Rattle.std.proofs.Common.{◌≡◌, ℕ, suc, ◌<◌, ◌⊎◌, Bool, true, false, List, [], ◌∷◌, ◌++◌, length}
+use Rattle.std.proofs.Common.{◌≡◌, ℕ, suc, ◌<◌, ◌⊎◌, Bool, true, List, [], ◌∷◌, ◌++◌, length}
 use Rattle.std.proofs.Common.{None, refl, sym, ◌∙◌, inl, inr, arith, append_assoc}
+use Rattle.ciborium_ll_grammar.specs.declared.spelling.Spelling.{Spelling}
+use Rattle.ciborium_ll_grammar.specs.declared.spelling.Spelling.TheVariants.{Any, Shortest}
 use Rattle.ciborium_ll_grammar.specs.declared.hdr.Header.{Header}
 use Rattle.ciborium_ll_grammar.specs.declared.hdr.Header.TheVariants as h
 use Rattle.ciborium_ll_grammar.specs.Title.{IsTitle, IsStrictTitle, shortest_title}
@@ -35,7 +37,7 @@ one_further h = grind arith
 fewer : {A B C : Type 0} {j k : ℕ} → j < k → A ⊎ (((j ≡ k) × B) ⊎ ((k < j) × C)) → A
 fewer less h = grind arith
 
-module _ (strict : Bool) where
+module _ (allowed : Spelling) where
   -- ---- an item that comes
 
   -- The bytes begin with an item, which is given by its title.
@@ -45,17 +47,17 @@ module _ (strict : Bool) where
     rest : List ℕ
     behind : List ℕ
     is_title : IsTitle title header
-    taken : IsTakenTitle strict title header
-    completes : Completes strict d header rest
+    taken : IsTakenTitle allowed title header
+    completes : Completes allowed d header rest
     is : s ≡ title ++ (rest ++ behind)
 
-  ahead : {d n : ℕ} {w s : List ℕ} (v : List ℕ) → AreItems strict d (suc n) w → s ≡ w ++ v → Ahead d s
+  ahead : {d n : ℕ} {w s : List ℕ} (v : List ℕ) → AreItems allowed d (suc n) w → s ≡ w ++ v → Ahead d s
   ahead {s = s} v (more_items {title = t} {rest = r} {others = a} {header = x} p g c i) e =
       let is : s ≡ t ++ (r ++ (a ++ v)) = simp append_assoc at e in
       search
 
   -- No bytes complete a break as an item.
-  no_completion : {d : ℕ} {r : List ℕ} → Completes strict d h.Break r → ⊥
+  no_completion : {d : ℕ} {r : List ℕ} → Completes allowed d h.Break r → ⊥
   no_completion c = elim c [ ]
 
   -- No item begins with a break.
@@ -65,7 +67,7 @@ module _ (strict : Bool) where
       no_completion (rw (← o.1) at a.completes)
 
   -- Two rows of items over the same bytes have the same number, or an item follows the row of fewer items.
-  rows : {d m n : ℕ} {u w : List ℕ} → AreItems strict d m u → AreItems strict d n w → (s v : List ℕ)
+  rows : {d m n : ℕ} {u w : List ℕ} → AreItems allowed d m u → AreItems allowed d n w → (s v : List ℕ)
       → u ++ s ≡ w ++ v → Ahead d s ⊎ (((m ≡ n) × (s ≡ v)) ⊎ ((n < m) × Ahead d v))
   rows no_items no_items s v e = inr (inl (refl, e))
   rows no_items (more_items p g c i) s v e = inl (ahead v (more_items p g c i) e)
@@ -73,8 +75,8 @@ module _ (strict : Bool) where
   rows {d = d} (more_items {title = t} {rest = r} {others = a} {header = x} p g c i)
       (more_items {title = t'} {rest = r'} {others = a'} {header = x'} p' g' c' i') s v e =
       let both : (t ++ r) ++ (a ++ s) ≡ (t' ++ r') ++ (a' ++ v) = simp append_assoc (simp append_assoc at e) in
-      one_further (rows i i' s v (one_item strict strict d d (t ++ r) (t' ++ r') (a ++ s) (a' ++ v)
-      (item_of strict d t r x p g c) (item_of strict d t' r' x' p' g' c') both).1)
+      one_further (rows i i' s v (one_item allowed allowed d d (t ++ r) (t' ++ r') (a ++ s) (a' ++ v)
+      (item_of allowed d t r x p g c) (item_of allowed d t' r' x' p' g' c') both).1)
 
   -- An item comes, or a break, if a break may stand in its place.
   abbrev GoesOn : ℕ → Bool → List ℕ → Type 0
@@ -88,8 +90,8 @@ module _ (strict : Bool) where
   before_break v may (inr (inr longer)) = absurd (no_break v longer.1)
 
   -- After a nest's title and some of its items, an item or an allowed break comes.
-  nest_goes : {d m : ℕ} {u r : List ℕ} {x : Header} → AreItems strict d m u → TakesMore x m
-      → Completes strict (suc d) x r → (s v : List ℕ) → u ++ s ≡ r ++ v → GoesOn d (may_close x m) s
+  nest_goes : {d m : ℕ} {u r : List ℕ} {x : Header} → AreItems allowed d m u → TakesMore x m
+      → Completes allowed (suc d) x r → (s v : List ℕ) → u ++ s ≡ r ++ v → GoesOn d (may_close x m) s
   nest_goes i takes (tag j) s v e = inl (fewer takes (rows i j s v e))
   nest_goes i takes (array j) s v e = inl (fewer takes (rows i j s v e))
   nest_goes i takes (pairs j) s v e = inl (fewer takes (rows i j s v e))
@@ -100,7 +102,7 @@ module _ (strict : Bool) where
   nest_goes i takes c s v e = absurd takes
 
   -- If a break comes at once, nothing was read before, and the break may stand.
-  break_due : {outer closable : Bool} {d levels : ℕ} {u : List ℕ} → ItemDue strict outer d u levels closable
+  break_due : {outer closable : Bool} {d levels : ℕ} {u : List ℕ} → ItemDue allowed outer d u levels closable
       → outer ≡ true → (s v : List ℕ) → u ++ s ≡ 0xff ∷ v → GoesOn levels closable s
   break_due here may s v e = inr (may, v, e)
   break_due (within {title = t} {items = a} {more = b} {header = x} p g takes i due) may s v e =
@@ -108,7 +110,7 @@ module _ (strict : Bool) where
       absurd (rw o.1 at takes)
 
   -- If an item is due within a whole item, an item comes, or a break that may stand in its place.
-  item_goes_on : {outer closable : Bool} {d levels : ℕ} {u : List ℕ} → ItemDue strict outer d u levels closable
+  item_goes_on : {outer closable : Bool} {d levels : ℕ} {u : List ℕ} → ItemDue allowed outer d u levels closable
       → (s : List ℕ) → Ahead d (u ++ s) → GoesOn levels closable s
   item_goes_on here s front = inl front
   item_goes_on (within {title = t} {items = a} {more = b} {header = x} p g takes i due) s front =
@@ -126,7 +128,7 @@ module _ (strict : Bool) where
   NoElement s = (w : List ℕ) (ms : List Mark) → IsElement w ms → (v : List ℕ) → s ≡ w ++ v → ⊥
 
   -- Each item begins with an element: a string, or its title.
-  no_item : {d : ℕ} {t r s : List ℕ} {x : Header} (v : List ℕ) → NoElement s → IsTitle t x → Completes strict d x r
+  no_item : {d : ℕ} {t r s : List ℕ} {x : Header} (v : List ℕ) → NoElement s → IsTitle t x → Completes allowed d x r
       → s ≡ t ++ (r ++ v) → ⊥
   no_item {t = t} {r = r} v never p (byte_string l) e =
       never (t ++ r) _ (string Bytes (definite (rw (sym l) at p)) (tt, tt)) v (e ∙ sym (append_assoc t r v))
@@ -143,7 +145,7 @@ module _ (strict : Bool) where
   nothing_goes never (inr ends) = never (0xff ∷ []) _ (plain h.Break break_title tt) ends.1 ends.2
 
   -- If the part that is due can't come, the bytes begin with no item.
-  item_stuck : {d : ℕ} {u : List ℕ} {at : Point} → ReachesItem strict d u at → (s : List ℕ) → Stuck at s
+  item_stuck : {d : ℕ} {u : List ℕ} {at : Point} → ReachesItem allowed d u at → (s : List ℕ) → Stuck at s
       → Ahead d (u ++ s) → ⊥
   item_stuck (at_item due) s (stop f) front =
       nothing_goes (λ w ms ok v e. element_stops w ms ok v s f e) (item_goes_on due s front)
@@ -190,7 +192,7 @@ flat_goes {k = k} (more {title = y} {body = b} {rest = z} q g f)
     (definite q) (definite q') (simp append_assoc (simp append_assoc at e))).2
 
 -- Flat strings and a break complete an open.
-open_of : (k : Kind) {d : ℕ} {r : List ℕ} → Completes true d (kind_header k None) r
+open_of : (k : Kind) {d : ℕ} {r : List ℕ} → Completes Shortest d (kind_header k None) r
     → (w : List ℕ) × (bs : List (List ℕ)) × (r ≡ w ++ 0xff ∷ []) × AreFlat k w bs
 open_of Bytes (open_bytes {strings = w} {bodies = bs} q g) = (w, bs, refl, g)
 open_of Text (open_text {strings = w} {bodies = bs} q g k) = (w, bs, refl, g)
@@ -202,10 +204,10 @@ IsNoOpen (In k) x = x ≡ kind_header k None → ⊥
 IsNoOpen (BodyDue k len start) x = Unit {0}
 
 -- If a title is due within a whole item, the title is strict.
-title_strictly : {d : ℕ} {u : List ℕ} {at : Point} → ReachesItem true d u at → IsAtTitle at → (t r : List ℕ)
-    (x : Header) → IsTitle t x → Ahead true d (u ++ (t ++ r)) → IsStrictTitle t x × IsNoOpen at x
+title_strictly : {d : ℕ} {u : List ℕ} {at : Point} → ReachesItem Shortest d u at → IsAtTitle at → (t r : List ℕ)
+    (x : Header) → IsTitle t x → Ahead Shortest d (u ++ (t ++ r)) → IsStrictTitle t x × IsNoOpen at x
 title_strictly (at_item due) title t r x p front =
-    elim (item_goes_on true due (t ++ r) front) [
+    elim (item_goes_on Shortest due (t ++ r) front) [
       | inl comes ↦ (strict_first _ _ p comes.is_title comes.taken comes.is, tt)
       | inr ends ↦ (strict_first _ _ p break_title break_strict ends.2, tt)
     ]
@@ -213,7 +215,7 @@ title_strictly (at_string {kind = k} due q inside ok) title t r x p front =
     let open_header = kind_header k None in
     let begin = shortest_title open_header in
     let begins = IsTitle-shortest open_header (open_in_range k) in
-    elim (item_goes_on true due (begin ++ (inside.0 ++ (t ++ r))) (simp (inside.1, append_assoc) at front)) [
+    elim (item_goes_on Shortest due (begin ++ (inside.0 ++ (t ++ r))) (simp (inside.1, append_assoc) at front)) [
       | inl comes ↦ (
           let o = one_title begin comes.title (inside.0 ++ (t ++ r)) (comes.rest ++ comes.behind) open_header
           comes.header begins comes.is_title comes.is in
@@ -227,45 +229,45 @@ title_strictly (at_body k reach q g) title t r x p front = absurd title
 title_strictly (at_piece reach q g) title t r x p front = absurd title
 
 -- If the title that is due is refused, the bytes begin with no item.
-refused_stuck : (strict : Bool) {d : ℕ} {u : List ℕ} {at : Point} → ReachesItem strict d u at → (s : List ℕ)
-    → Refuses strict at s → Ahead strict d (u ++ s) → ⊥
-refused_stuck false reach s refuses front = none_refused _ s refuses
-refused_stuck true reach s (long {t = t} x r title p untaken is) front =
+refused_stuck : (allowed : Spelling) {d : ℕ} {u : List ℕ} {at : Point} → ReachesItem allowed d u at → (s : List ℕ)
+    → Refuses allowed at s → Ahead allowed d (u ++ s) → ⊥
+refused_stuck Any reach s refuses front = none_refused _ s refuses
+refused_stuck Shortest reach s (long {t = t} x r title p untaken is) front =
     untaken (title_strictly reach title t r x p (rw is at front)).0
-refused_stuck true reach s (nested {k = k} {t = t} r on p is) front =
+refused_stuck Shortest reach s (nested {k = k} {t = t} r on p is) front =
     (title_strictly reach tt t r (kind_header k None) p (rw is at front)).1 refl
 
 -- ---- nothing stops the read
 
-module _ (strict : Bool) (d : ℕ) (x : List ℕ) (front : BeginsWithItem strict d x) where
-  in_front : Ahead strict d x
-  in_front = ahead strict front.rest front.is_item front.is
+module _ (allowed : Spelling) (d : ℕ) (x : List ℕ) (front : BeginsWithItem allowed d x) where
+  in_front : Ahead allowed d x
+  in_front = ahead allowed front.rest front.is_item front.is
 
   -- Bytes that begin with a whole item have no fault.
-  pub no_item_fault : HasItemFault strict d x → ⊥
+  pub no_item_fault : HasItemFault allowed d x → ⊥
   no_item_fault f =
-      elim (stuck_or_refused strict f.before [] f.point f.ahead f.answer f.written f.consumed f.fault) [
-        | inl stopped ↦ item_stuck strict f.reach f.ahead stopped (rw f.is at in_front)
-        | inr refused ↦ refused_stuck strict f.reach f.ahead refused (rw f.is at in_front)
+      elim (stuck_or_refused allowed f.before [] f.point f.ahead f.answer f.written f.consumed f.fault) [
+        | inl stopped ↦ item_stuck allowed f.reach f.ahead stopped (rw f.is at in_front)
+        | inr refused ↦ refused_stuck allowed f.reach f.ahead refused (rw f.is at in_front)
       ]
 
   -- Bytes that begin with a whole item have no break at a place that allows none.
-  pub no_early_break : HasEarlyBreak strict d x → ⊥
+  pub no_early_break : HasEarlyBreak allowed d x → ⊥
   no_early_break f =
-      elim (item_goes_on strict f.item_due (0xff ∷ f.rest) (rw f.is at in_front)) [
-        | inl comes ↦ no_break strict f.rest comes
+      elim (item_goes_on allowed f.item_due (0xff ∷ f.rest) (rw f.is at in_front)) [
+        | inl comes ↦ no_break allowed f.rest comes
         | inr ends ↦ let no = ends.0 in cc
       ]
 
   -- A nest takes a level.
-  not_flat : {y : Header} {r : List ℕ} → Completes strict 0 y r → IsNest y → ⊥
+  not_flat : {y : Header} {r : List ℕ} → Completes allowed 0 y r → IsNest y → ⊥
   not_flat positive nest = nest
   not_flat c nest = nest
 
   -- Bytes that begin with a whole item have no nest for which no level is left.
-  pub no_deep_nest : HasDeepNest strict d x → ⊥
+  pub no_deep_nest : HasDeepNest allowed d x → ⊥
   no_deep_nest f =
-      elim (item_goes_on strict f.item_due (f.title ++ f.rest) (rw f.is at in_front)) [
+      elim (item_goes_on allowed f.item_due (f.title ++ f.rest) (rw f.is at in_front)) [
         | inl comes ↦ not_flat comes.completes (rw (one_title f.title comes.title f.rest (comes.rest ++ comes.behind)
             f.header comes.header f.is_title comes.is_title comes.is).1 at f.is_nest)
         | inr ends ↦ rw (one_title f.title (0xff ∷ []) f.rest ends.1 f.header h.Break f.is_title break_title ends.2).1

@@ -11,7 +11,7 @@ use Rattle.ciborium_ll_grammar.proofs.ItemJoins.{item_before}
 use Rattle.cbor_skip.specs.declared.SkipError.{SkipError}
 use Rattle.cbor_skip.specs.Due.{IsNest, TakesMore, item_count, may_close}
 use Rattle.cbor_skip.specs.Skipping.{ReadsItem, ReadsCounted, SkipsCounted, SkipsWithin, StopsItem, StopsCounted}
-use Rattle.cbor_skip.specs.Skipping.{SkipsItem, strictness}
+use Rattle.cbor_skip.specs.Skipping.{SkipsItem, allowed_by}
 use Rattle.cbor_skip.proofs.ItemSteps.{counted_completes, reads_nest, stops_nest, no_items_read}
 use Rattle.cbor_skip.proofs.StrictnessLaws.{items_looser, due_looser, passed_keeps}
 
@@ -39,7 +39,7 @@ module _ {R E : Type 0} (source : Ghosts R E) where
       → StopsItem source false d room now error new → StopsCounted source left d room now error new
   stops_first {left = left} {d = d} {now = now} some stops =
       let more : 0 < left = omega arith in
-      let none : AreItems (strictness now) d 0 [] = no_items in
+      let none : AreItems (allowed_by now) d 0 [] = no_items in
       let passed = ReadsPast-none source now in
       search
 

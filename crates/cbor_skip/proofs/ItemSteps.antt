@@ -2,6 +2,8 @@
 use Rattle.std.proofs.Common.{◌≡◌, ℕ, suc, ◌<◌, Bool, true, false, List, [], ◌∷◌, ◌++◌, length, Option}
 use Rattle.std.proofs.Common.{Some, None, Err, refl, sym, subst, ◌∙◌, inl, arith, append_assoc, append-nil}
 use Rattle.ciborium_ll_io.specs.declared.io.Read.{Ghosts}
+use Rattle.ciborium_ll_grammar.specs.declared.spelling.Spelling.{Spelling}
+use Rattle.ciborium_ll_grammar.specs.declared.spelling.Spelling.TheVariants.{Shortest}
 use Rattle.ciborium_ll_grammar.specs.declared.hdr.Header.{Header}
 use Rattle.ciborium_ll_grammar.specs.declared.hdr.Header.TheVariants as h
 use Rattle.ciborium_ll_decoder.specs.declared.dec.Decoder.{Decoder}
@@ -13,7 +15,7 @@ use Rattle.ciborium_ll_grammar.specs.Elements.{AreWritable}
 use Rattle.ciborium_ll_grammar.specs.Items.{Completes, byte_string, text_string, open_bytes, open_text, tag, array}
 use Rattle.ciborium_ll_grammar.specs.Items.{pairs, open_array, open_pairs, AreItems, no_items, more_items, IsItem}
 use Rattle.ciborium_ll_grammar.specs.Items.{IsTakenTitle, AreTakenStrings}
-use Rattle.ciborium_ll_decoder.specs.Decoding.{ReadsPast, DecoderPullAnswer, PullsTitle, IsSteady, strict_of}
+use Rattle.ciborium_ll_decoder.specs.Decoding.{ReadsPast, DecoderPullAnswer, PullsTitle, IsSteady, spelling_of}
 use Rattle.ciborium_ll_decoder.specs.Skipping.{IsTakenBehind, SkipsWhole}
 use Rattle.std.proofs.lemmas.List.{append_cancel_right}
 use Rattle.ciborium_ll_grammar.proofs.TitleLaws.{IsTitle-shortest, title_in_range}
@@ -27,7 +29,7 @@ use Rattle.cbor_skip.specs.declared.remaining.Remaining.{Remaining}
 use Rattle.cbor_skip.specs.Due.{ItemDue, here, within, item_count, may_close}
 use Rattle.cbor_skip.specs.Remaining.{IsRemaining, is_done, closes}
 use Rattle.cbor_skip.specs.Skipping.{StopsDue, StopsTitle, StopsItem, ReadsItem, ReadsWithin, StopsWithin}
-use Rattle.cbor_skip.specs.Skipping.{strictness}
+use Rattle.cbor_skip.specs.Skipping.{allowed_by}
 use Rattle.cbor_skip.proofs.RemainingLaws.{takes_more}
 use Rattle.cbor_skip.proofs.StrictnessLaws.{completes_looser, items_looser, due_looser, strict_by, pulled_taken}
 use Rattle.cbor_skip.proofs.StrictnessLaws.{pulled_keeps, passed_keeps}
@@ -35,26 +37,26 @@ use Rattle.cbor_skip.proofs.StrictnessLaws.{pulled_keeps, passed_keeps}
 -- ---- lists of items
 
 -- Fewer than one item are no bytes.
-pub no_items_read : (s : Bool) (d count : ℕ) (items : List ℕ) → count < 1 → AreItems s d count items → items ≡ []
+pub no_items_read : (s : Spelling) (d count : ℕ) (items : List ℕ) → count < 1 → AreItems s d count items → items ≡ []
 no_items_read s d count items less i = grind arith
 
 -- The items that a header counts complete the nest.
-pub counted_completes : {s : Bool} {d n : ℕ} {items : List ℕ} (x : Header) → item_count x ≡ Some n
+pub counted_completes : {s : Spelling} {d n : ℕ} {items : List ℕ} (x : Header) → item_count x ≡ Some n
     → AreItems s d n items → Completes s (suc d) x items
 counted_completes x is i = grind (arith, tag, array, pairs)
 
 -- ---- a string after its header
 
-completes_body : (s : Bool) (d : ℕ) (k : Kind) (b : List ℕ) → IsWritable k b
+completes_body : (s : Spelling) (d : ℕ) (k : Kind) (b : List ℕ) → IsWritable k b
     → Completes s d (kind_header k (Some (length b))) b
 completes_body s d k b sound = grind (arith, byte_string, text_string)
 
-completes_open : (s : Bool) (d : ℕ) (k : Kind) (x : List ℕ) (bs : List (List ℕ)) → AreStrings k x bs
+completes_open : (s : Spelling) (d : ℕ) (k : Kind) (x : List ℕ) (bs : List (List ℕ)) → AreStrings k x bs
     → AreTakenStrings s k x bs → AreWritable k bs → Completes s d (kind_header k None) (x ++ 0xff ∷ [])
 completes_open s d k x bs strings taken sound = grind (arith, open_bytes, open_text)
 
 -- The bytes after the title of a string complete the item.
-string_completes : (s : Bool) (d : ℕ) (k : Kind) (len : Option ℕ) (t rest w : List ℕ) (bs : List (List ℕ))
+string_completes : (s : Spelling) (d : ℕ) (k : Kind) (len : Option ℕ) (t rest w : List ℕ) (bs : List (List ℕ))
     → IsTitle t (kind_header k len) → IsString k w bs → t ++ rest ≡ w → IsTakenBehind s k len rest bs → AreWritable k bs
     → Completes s d (kind_header k len) rest
 string_completes s d k len t rest w bs p (definite {title = t'} {body = b} p') e taken sound =
@@ -76,7 +78,7 @@ module _ {R E : Type 0} (source : Ghosts R E) where
 
   -- If a title is pulled and completed, an item is read.
   reads_item : {d : ℕ} {old titled new : Decoder R} {x : Header} {rest : List ℕ} → PullsTitle source old x titled
-      → (IsSteady source old → IsSteady source titled) → Completes (strictness old) d x rest
+      → (IsSteady source old → IsSteady source titled) → Completes (allowed_by old) d x rest
       → ReadsPast source titled rest new → ReadsItem source d old new
   reads_item title steady completes passed = record {
     item = _;
@@ -85,7 +87,7 @@ module _ {R E : Type 0} (source : Ghosts R E) where
   }
 
   pub reads_plain : {d : ℕ} {old titled : Decoder R} {x : Header} → PullsTitle source old x titled
-      → (IsSteady source old → IsSteady source titled) → Completes (strictness old) d x []
+      → (IsSteady source old → IsSteady source titled) → Completes (allowed_by old) d x []
       → ReadsItem source d old titled
   reads_plain title steady completes = reads_item title steady completes (ReadsPast-none source _)
 
@@ -96,10 +98,10 @@ module _ {R E : Type 0} (source : Ghosts R E) where
       let x = kind_header k len in
       let shortest = IsTitle-shortest x (title_in_range title.title x title.is_title) in
       let completes =
-      string_completes (strict_of titled) d k len (shortest_title x) whole.behind _ whole.bodies shortest
+      string_completes (spelling_of titled) d k len (shortest_title x) whole.behind _ whole.bodies shortest
       whole.is_string refl whole.taken whole.sound in
-      let keeps : strictness old ≡ true → strict_of titled ≡ true =
-      λ on. title.mode ∙ (strict_by old.waiting (strict_of old) on).0 in
+      let keeps : allowed_by old ≡ Shortest → spelling_of titled ≡ Shortest =
+      λ on. title.mode ∙ (strict_by old.waiting (spelling_of old) on).0 in
       reads_item title steady (completes_looser _ _ keeps d x whole.behind completes) whole.passed
 
   pub reads_nest : {d levels : ℕ} {old titled new : Decoder R} {x : Header} → suc levels ≡ d
@@ -113,7 +115,7 @@ module _ {R E : Type 0} (source : Ghosts R E) where
   pub stops_here : {outer : Bool} {d room : ℕ} {old : Decoder R} {error : SkipError E} {new : Decoder R}
       → StopsDue source d outer room old error new → StopsItem source outer d room old error new
   stops_here {outer = outer} {d = d} {old = old} stops =
-      let due : ItemDue (strictness old) outer d [] d outer = here in
+      let due : ItemDue (allowed_by old) outer d [] d outer = here in
       let passed = ReadsPast-none source old in
       search
 
@@ -140,7 +142,7 @@ module _ {R E : Type 0} (source : Ghosts R E) where
       let due = due_looser _ _ (λ on. passed_keeps source stops.passed (keeps on)) _ _ _ _ _ inner.due in
       let passed = ReadsPast-then source _ _ _ _ _ (pulled_first title steady)
       (ReadsPast-then source _ _ _ _ _ stops.passed inner.passed) in
-      let whole : ItemDue (strictness old) outer (suc levels) _ inner.levels inner.closable =
+      let whole : ItemDue (allowed_by old) outer (suc levels) _ inner.levels inner.closable =
       within title.is_title (pulled_taken source title) stops.takes_more items due in
       rw (sym level) (search)
 
@@ -151,7 +153,7 @@ module _ {R E : Type 0} (source : Ghosts R E) where
     pub count : ℕ
     pub is_remaining : IsRemaining x count remaining
     pub items : List ℕ
-    pub are_items : AreItems (strictness old) d count items
+    pub are_items : AreItems (allowed_by old) d count items
     pub passed : ReadsPast source old items now
 
   pub none_read : {x : Header} {d : ℕ} {old : Decoder R} {remaining : Remaining} → IsRemaining x 0 remaining
@@ -188,7 +190,7 @@ module _ {R E : Type 0} (source : Ghosts R E) where
       search
 
   -- If a break may stand after the items, the items and the break complete the nest.
-  all_closed : (s : Bool) (x : Header) (d count : ℕ) (items : List ℕ) (remaining : Remaining)
+  all_closed : (s : Spelling) (x : Header) (d count : ℕ) (items : List ℕ) (remaining : Remaining)
       → IsRemaining x count remaining → closes remaining ≡ true → AreItems s d count items
       → Completes s (suc d) x (items ++ 0xff ∷ [])
   all_closed s x d count items remaining is may i = grind (arith, open_array, open_pairs)

@@ -1,6 +1,7 @@
 -- The beginning that a title makes tells the title's header.
-use Rattle.std.proofs.Common.{◌≡◌, ℕ, Option, Err, [], Bool, arith, inr}
+use Rattle.std.proofs.Common.{◌≡◌, ℕ, Option, Err, [], arith, inr}
 use Rattle.ciborium_ll_io.specs.declared.io.Read.{Ghosts}
+use Rattle.ciborium_ll_grammar.specs.declared.spelling.Spelling.{Spelling}
 use Rattle.ciborium_ll_grammar.specs.declared.hdr.Header.{Header}
 use Rattle.ciborium_ll_grammar.specs.declared.hdr.Header.TheVariants as h
 use Rattle.ciborium_ll_grammar.specs.Items.{Completes, positive, negative, float, simple}
@@ -43,8 +44,8 @@ begins_nest source header nest begun e begins pulled =
     grind arith
 
 -- A value is an item by itself.
-pub value_start : {strict : Bool} {depth : ℕ} (header : Header) → start_of header ≡ s.Value
-    → Completes strict depth header []
+pub value_start : {allowed : Spelling} {depth : ℕ} (header : Header) → start_of header ≡ s.Value
+    → Completes allowed depth header []
 value_start header e = grind (arith, positive, negative, float, simple)
 
 module _ {R E : Type 0} (source : Ghosts R E) (kind : Kind) (len : Option ℕ) {old titled : Decoder R} where

@@ -1,13 +1,15 @@
 -- `skip_item` and its parts, over any reader. The relations speak of bytes that the reader tells.
 use Rattle.std.specs.Prelude.{◌≡◌, ℕ, suc, ◌<◌, ◌⊎◌, Bool, false, List, Option, Some, None, Result, Ok, Err}
 use Rattle.ciborium_ll_io.specs.declared.io.Read.{Ghosts}
+use Rattle.ciborium_ll_grammar.specs.declared.spelling.Spelling.{Spelling}
+use Rattle.ciborium_ll_grammar.specs.declared.spelling.Spelling.TheVariants.{Any}
 use Rattle.ciborium_ll_grammar.specs.declared.hdr.Header.{Header}
 use Rattle.ciborium_ll_grammar.specs.declared.hdr.Header.TheVariants as h
 use Rattle.ciborium_ll_decoder.specs.declared.dec.Decoder.{Decoder}
 use Rattle.ciborium_ll_decoder.specs.declared.dec.Error.{Error}
 use Rattle.ciborium_ll_grammar.specs.Strings.{Kind, kind_header}
 use Rattle.ciborium_ll_grammar.specs.Items.{Completes, AreItems, IsItem}
-use Rattle.ciborium_ll_decoder.specs.Decoding.{IsSteady, MovesOn, ReadsPast, DecoderPullAnswer, PullsTitle, strict_of}
+use Rattle.ciborium_ll_decoder.specs.Decoding.{IsSteady, MovesOn, ReadsPast, DecoderPullAnswer, PullsTitle, spelling_of}
 use Rattle.ciborium_ll_decoder.specs.Skipping.{SkipsString}
 use Rattle.cbor_skip.specs.declared.Begun.{Begun}
 use Rattle.cbor_skip.specs.declared.Begun.TheVariants as b
@@ -15,16 +17,16 @@ use Rattle.cbor_skip.specs.declared.SkipError.{SkipError}
 use Rattle.cbor_skip.specs.declared.SkipError.TheVariants as s
 use Rattle.cbor_skip.specs.Due.{IsNest, TakesMore, may_close, item_count, ItemDue}
 
--- Whether a decoder takes only the shortest spelling: a strict decoder does so if no header waits. It gives a header
--- that waits as it was pushed, even that of `f8 18`.
-abbrev pub strict_unless_waiting : Option Header → Bool → Bool
-strict_unless_waiting None strict = strict
-strict_unless_waiting (Some header) strict = false
+-- The spelling that is allowed if this header waits, or none: any if one waits. A decoder gives a header that waits as
+-- it was pushed, even that of `f8 18`.
+abbrev pub allowed_unless_waiting : Option Header → Spelling → Spelling
+allowed_unless_waiting None allowed = allowed
+allowed_unless_waiting (Some header) allowed = Any
 
--- Whether only the shortest spelling is taken (RFC 7049, 3.9): by a strict decoder on which no header waits. If so,
--- `01` is taken, and `18 01` is not.
-abbrev pub strictness : {R : Type 0} → Decoder R → Bool
-strictness decoder = strict_unless_waiting decoder.waiting (strict_of decoder)
+-- The spelling that a decoder allows ahead (RFC 7049, 3.9): its own if no header waits, and otherwise any. A strict
+-- decoder on which no header waits allows `01`, and not `18 01`.
+abbrev pub allowed_by : {R : Type 0} → Decoder R → Spelling
+allowed_by decoder = allowed_unless_waiting decoder.waiting (spelling_of decoder)
 
 -- The beginning that the header of a nest makes: the number of its items, or the header, if that number is not told or
 -- not counted. The title `82` makes 2 items, and `9f` makes its header.
@@ -77,7 +79,7 @@ module _ {R E : Type 0} (source : Ghosts R E) where
     pub bytes : List ℕ
     pub levels : ℕ
     pub closable : Bool
-    pub due : ItemDue (strictness old) outer depth bytes levels closable
+    pub due : ItemDue (allowed_by old) outer depth bytes levels closable
     pub between : Decoder R
     pub passed : ReadsPast source old bytes between
     pub stops : StopsDue levels closable room between error new
@@ -85,7 +87,7 @@ module _ {R E : Type 0} (source : Ghosts R E) where
   -- The decoder read one item, in its shortest spelling if it is strict. If `17 02` is due, the item is `17`.
   pub record ReadsItem (depth : ℕ) (old new : Decoder R) : Type 0 where
     pub item : List ℕ
-    pub is_item : IsItem (strictness old) depth item
+    pub is_item : IsItem (allowed_by old) depth item
     pub passed : ReadsPast source old item new
 
   -- A title began an item, which was read whole and is an item to any depth. Or the title is a break, or that of a
@@ -100,7 +102,7 @@ module _ {R E : Type 0} (source : Ghosts R E) where
   -- The decoder read `count` items: 2, for example, if it read `01 02`.
   pub record ReadsCounted (count depth : ℕ) (old new : Decoder R) : Type 0 where
     pub items : List ℕ
-    pub are_items : AreItems (strictness old) depth count items
+    pub are_items : AreItems (allowed_by old) depth count items
     pub passed : ReadsPast source old items new
 
   -- The decoder read some of `count` items, and a beginning of one more. With depth 1, of 2 items in `01 81 1c` these
@@ -110,7 +112,7 @@ module _ {R E : Type 0} (source : Ghosts R E) where
     pub before : ℕ
     pub items : List ℕ
     pub more : before < count
-    pub are_items : AreItems (strictness old) depth before items
+    pub are_items : AreItems (allowed_by old) depth before items
     pub between : Decoder R
     pub passed : ReadsPast source old items between
     pub stops : StopsItem false depth room between error new
@@ -129,7 +131,7 @@ module _ {R E : Type 0} (source : Ghosts R E) where
   -- After the header of a nest the rest of the nest was read: `01 02` after `82`, or `01 02 ff` after `9f`.
   pub record ReadsWithin (header : Header) (depth : ℕ) (old new : Decoder R) : Type 0 where
     pub rest : List ℕ
-    pub completes : Completes (strictness old) (suc depth) header rest
+    pub completes : Completes (allowed_by old) (suc depth) header rest
     pub passed : ReadsPast source old rest new
 
   -- After the header of a nest `count` items were read, and a beginning of one more. If `01 1c` follows `82`, `count`
@@ -139,7 +141,7 @@ module _ {R E : Type 0} (source : Ghosts R E) where
     pub count : ℕ
     pub items : List ℕ
     pub takes_more : TakesMore header count
-    pub are_items : AreItems (strictness old) depth count items
+    pub are_items : AreItems (allowed_by old) depth count items
     pub between : Decoder R
     pub passed : ReadsPast source old items between
     pub stops : StopsItem (may_close header count) depth room between error new

@@ -1,10 +1,12 @@
 -- `skip_item` if the bytes are told and the reader fails only if bytes are missing.
-use Rattle.std.specs.Prelude.{◌≡◌, ℕ, ◌+◌, ◌<◌, Bool, true, List, length, drop, Some, None, Result, Ok, Err}
+use Rattle.std.specs.Prelude.{◌≡◌, ℕ, ◌+◌, ◌<◌, List, length, drop, Some, None, Result, Ok, Err}
 use Rattle.ciborium_ll_io.specs.declared.io.Read.{Ghosts}
 use Rattle.ciborium_ll_decoder.specs.declared.dec.Decoder.{Decoder}
 use Rattle.ciborium_ll_decoder.specs.declared.dec.Error.TheVariants as e
+use Rattle.ciborium_ll_grammar.specs.declared.spelling.Spelling.{Spelling}
+use Rattle.ciborium_ll_grammar.specs.declared.spelling.Spelling.TheVariants.{Shortest}
 use Rattle.ciborium_ll_grammar.specs.Faults.{Answer, Short, Syntax}
-use Rattle.ciborium_ll_decoder.specs.Decoding.{offset_limit, view, IsSteady, strict_of}
+use Rattle.ciborium_ll_decoder.specs.Decoding.{offset_limit, view, IsSteady, spelling_of}
 use Rattle.cbor_skip.specs.declared.SkipError.{SkipError}
 use Rattle.cbor_skip.specs.declared.SkipError.TheVariants as s
 use Rattle.cbor_skip.specs.ItemFaults.{HasDeepNest, HasEarlyBreak, HasItemFault, BeginsWithItem}
@@ -13,53 +15,56 @@ module _ {R E : Type 0} (source : Ghosts R E) where
   -- The reader gives the bytes that it tells. The offset fits the bytes that are due, with 8 and with the buffer's
   -- length to spare. No header waits on a strict decoder. With `01` due and a buffer of 64 bytes, the offset 0 fits.
   pub record IsReadyToSkip (room : ℕ) (decoder : Decoder R) (due : List ℕ) : Type 0 where
-    pub none_waits : strict_of decoder ≡ true → decoder.waiting ≡ None
+    pub none_waits : spelling_of decoder ≡ Shortest → decoder.waiting ≡ None
     pub steady : IsSteady source decoder
     pub told : view source decoder ≡ Some due
     pub fits-title : decoder.offset + length due + 8 < offset_limit
     pub fits-chunk : decoder.offset + length due + room < offset_limit
 
   -- The bytes began with an item, and exactly the bytes that follow are left. If `01 07` is due, `07` is left.
-  pub record SkipsFront (strict : Bool) (depth : ℕ) (due : List ℕ) (old new : Decoder R) : Type 0 where
-    pub front : BeginsWithItem strict depth due
+  pub record SkipsFront (allowed : Spelling) (depth : ℕ) (due : List ℕ) (old new : Decoder R) : Type 0 where
+    pub front : BeginsWithItem allowed depth due
     pub left : view source new ≡ Some front.rest
     pub offset : new.offset ≡ old.offset + length front.item
 
   -- The read met a fault. The answer and the bytes that are consumed are the fault's own. If `81 1c 05` is due, with
   -- depth 1, `05` is left.
-  pub record MeetsItemFault (strict : Bool) (depth : ℕ) (due : List ℕ) (answer : Answer) (old new : Decoder R) : Type 0
+  pub record MeetsItemFault (allowed : Spelling) (depth : ℕ) (due : List ℕ) (answer : Answer)
+      (old new : Decoder R) : Type 0
     where
-      pub fault : HasItemFault strict depth due
+      pub fault : HasItemFault allowed depth due
       pub answered : fault.answer ≡ answer
       pub left : view source new ≡ Some (drop fault.consumed fault.ahead)
       pub offset : new.offset ≡ old.offset + length fault.before + fault.consumed
 
   -- A break stood at a place that allows none. The answer names its offset, and the break is consumed. In `82 01 ff`
   -- from offset 0 on, with depth 1, the offset is 2.
-  pub record FindsBreak (strict : Bool) (depth : ℕ) (due : List ℕ) (old : Decoder R) (at : ℕ) (new : Decoder R) : Type 0
+  pub record FindsBreak (allowed : Spelling) (depth : ℕ) (due : List ℕ) (old : Decoder R) (at : ℕ)
+      (new : Decoder R) : Type 0
     where
-      pub fault : HasEarlyBreak strict depth due
+      pub fault : HasEarlyBreak allowed depth due
       pub place : at ≡ old.offset + length fault.before
       pub left : view source new ≡ Some fault.rest
       pub offset : new.offset ≡ at + 1
 
   -- A tag, an array or a map stood too deep. The answer names its title's offset, and the title is consumed. In `81 80`
   -- from offset 0 on, with depth 1, the offset is 1.
-  pub record FindsNest (strict : Bool) (depth : ℕ) (due : List ℕ) (old : Decoder R) (at : ℕ) (new : Decoder R) : Type 0
+  pub record FindsNest (allowed : Spelling) (depth : ℕ) (due : List ℕ) (old : Decoder R) (at : ℕ)
+      (new : Decoder R) : Type 0
     where
-      pub fault : HasDeepNest strict depth due
+      pub fault : HasDeepNest allowed depth due
       pub place : at ≡ old.offset + length fault.before
       pub left : view source new ≡ Some fault.rest
       pub offset : new.offset ≡ at + length fault.title
 
   -- `skip_item` skips one item, in any spelling or in the shortest, or meets the fault that stops it. The relation says
   -- which bytes are left, and the offset. If `01 1c` is due, it skips `01` and leaves `1c`.
-  abbrev pub SkipsTold : Bool → ℕ → List ℕ → Decoder R → Result (Unit {0}) (SkipError E) → Decoder R → Type 0
-  SkipsTold strict depth due old (Ok done) new = SkipsFront strict depth due old new
-  SkipsTold strict depth due old (Err (s.Break at)) new = FindsBreak strict depth due old at new
-  SkipsTold strict depth due old (Err (s.Deep at)) new = FindsNest strict depth due old at new
-  SkipsTold strict depth due old (Err (s.Read (e.Io fault))) new = MeetsItemFault strict depth due Short old new
-  SkipsTold strict depth due old (Err (s.Read (e.Syntax place))) new =
-      (start : ℕ) × (place ≡ old.offset + start) × MeetsItemFault strict depth due (Syntax start) old new
-  SkipsTold strict depth due old (Err (s.Read e.TooLong)) new = ⊥
-  SkipsTold strict depth due old (Err (s.Read e.Waiting)) new = ⊥
+  abbrev pub SkipsTold : Spelling → ℕ → List ℕ → Decoder R → Result (Unit {0}) (SkipError E) → Decoder R → Type 0
+  SkipsTold allowed depth due old (Ok done) new = SkipsFront allowed depth due old new
+  SkipsTold allowed depth due old (Err (s.Break at)) new = FindsBreak allowed depth due old at new
+  SkipsTold allowed depth due old (Err (s.Deep at)) new = FindsNest allowed depth due old at new
+  SkipsTold allowed depth due old (Err (s.Read (e.Io fault))) new = MeetsItemFault allowed depth due Short old new
+  SkipsTold allowed depth due old (Err (s.Read (e.Syntax place))) new =
+      (start : ℕ) × (place ≡ old.offset + start) × MeetsItemFault allowed depth due (Syntax start) old new
+  SkipsTold allowed depth due old (Err (s.Read e.TooLong)) new = ⊥
+  SkipsTold allowed depth due old (Err (s.Read e.Waiting)) new = ⊥

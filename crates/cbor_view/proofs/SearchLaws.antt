@@ -4,6 +4,7 @@ use Rattle.std.proofs.Common.{Option, Some, None, MatchOption, IsTrue, refl, sym
 use Rattle.std.specs.List.{concat, IsSplitAt}
 use Rattle.std.proofs.lemmas.Grind.{not_there}
 use Rattle.std.proofs.Math.Logic.{∥∥₁_map}
+use Rattle.ciborium_ll_grammar.specs.declared.spelling.Spelling.TheVariants.{Any}
 use Rattle.ciborium_ll_grammar.specs.declared.hdr.Header.TheVariants as h
 use Rattle.ciborium_ll_grammar.specs.Title.{IsTitle}
 use Rattle.ciborium_ll_grammar.specs.Items.{IsItem}
@@ -21,26 +22,26 @@ use Rattle.cbor_view.proofs.NestLaws.{items_some, false_true, one_map}
 -- ---- pairs one by one
 
 module _ (Matches : List ℕ → Type 0) where
-  pub first_here : (e : ℕ) (w key value last : List ℕ) → IsItem false e key → IsItem false e value
+  pub first_here : (e : ℕ) (w key value last : List ℕ) → IsItem Any e key → IsItem Any e value
       → w ≡ key ++ (value ++ last) → Matches key → IsFirstPair Matches e w value
   first_here e w key value last i v z m =
       subst (λ (u : List ℕ). IsFirstPair Matches e u value) (sym z) (here last i v m)
 
-  pub first_later : (e : ℕ) (w key value last found : List ℕ) → IsItem false e key → IsItem false e value
+  pub first_later : (e : ℕ) (w key value last found : List ℕ) → IsItem Any e key → IsItem Any e value
       → w ≡ key ++ (value ++ last) → (Matches key → ⊥) → IsFirstPair Matches e last found
       → IsFirstPair Matches e w found
   first_later e w key value last found i v z n f =
       subst (λ (u : List ℕ). IsFirstPair Matches e u found) (sym z) (later i v n f)
 
   -- A pair whose key matches is a later one, if the first key does not match.
-  pub later_back : (e : ℕ) (w key value last k v : List ℕ) → IsItem false e key → IsItem false e value
+  pub later_back : (e : ℕ) (w key value last k v : List ℕ) → IsItem Any e key → IsItem Any e value
       → w ≡ key ++ (value ++ last) → (Matches key → ⊥) → IsPairOf e w k v → Matches k → IsPairOf e last k v
   later_back e w key value last k v i j z n (first_pair others p q) m =
-      let one = one_item false false e e k key (v ++ others) (value ++ last) p i z in
+      let one = one_item Any Any e e k key (v ++ others) (value ++ last) p i z in
       absurd (n (subst Matches one.0 m))
   later_back e w key value last k v i j z n (later_pair {other = a} {another = b} {others = o} p q r) m =
-      let one = one_item false false e e a key (b ++ o) (value ++ last) p i z in
-      let two = one_item false false e e b value o last q j one.1 in
+      let one = one_item Any Any e e a key (b ++ o) (value ++ last) p i z in
+      let two = one_item Any Any e e b value o last q j one.1 in
       subst (λ (u : List ℕ). IsPairOf e u k v) two.1 r
 
 pub no_pair : (e : ℕ) (w k v : List ℕ) → IsPairOf e w k v → w ≡ [] → ⊥

@@ -1,10 +1,11 @@
 -- The segments of a string, one by one.
-use Rattle.std.proofs.Common.{◌≡◌, ℕ, zero, suc, ◌<◌, ◌≤◌, false, List, [], ◌∷◌, ◌++◌, length, Option, Some, None}
+use Rattle.std.proofs.Common.{◌≡◌, ℕ, zero, suc, ◌<◌, ◌≤◌, List, [], ◌∷◌, ◌++◌, length, Option, Some, None}
 use Rattle.std.proofs.Common.{MatchOption, refl, sym, ◌∙◌, ap, subst, append_assoc, append-nil, arith, length-append}
 use Rattle.std.proofs.Common.{◌⊎◌, inl, inr}
 use Rattle.std.proofs.lemmas.Grind.{not_there}
 use Rattle.std.proofs.Math.Logic.{∥∥₁_map, ∥∥₁_elim}
 use Rattle.std.proofs.Props.{props}
+use Rattle.ciborium_ll_grammar.specs.declared.spelling.Spelling.TheVariants.{Any}
 use Rattle.ciborium_ll_grammar.specs.declared.hdr.Header.{Header}
 use Rattle.ciborium_ll_grammar.specs.declared.hdr.Header.TheVariants as h
 use Rattle.ciborium_ll_grammar.specs.Title.{HasFirstTitle, HasNoTitle, IsTitle}
@@ -215,7 +216,7 @@ texts_left w body last t f = ∥∥₁_map t (λ s.
 
 -- ---- an item that is a string
 
-bytes_item : (e : ℕ) (len : Option ℕ) (t rest : List ℕ) → IsTitle t (h.Bytes len) → Completes false e (h.Bytes len) rest
+bytes_item : (e : ℕ) (len : Option ℕ) (t rest : List ℕ) → IsTitle t (h.Bytes len) → Completes Any e (h.Bytes len) rest
     → IsStringItem Bytes (t ++ rest)
 bytes_item e (Some len) t rest p (byte_string l) = record {
   bodies = rest ∷ [];
@@ -232,7 +233,7 @@ bytes_item e None t rest p (open_bytes {bodies = bodies} q k) = record {
     any [] = tt
     any (body ∷ others) = (tt, any others)
 
-text_item : (e : ℕ) (len : Option ℕ) (t rest : List ℕ) → IsTitle t (h.Text len) → Completes false e (h.Text len) rest
+text_item : (e : ℕ) (len : Option ℕ) (t rest : List ℕ) → IsTitle t (h.Text len) → Completes Any e (h.Text len) rest
     → IsStringItem Text (t ++ rest)
 text_item e (Some len) t rest p (text_string l k) = record {
   bodies = rest ∷ [];

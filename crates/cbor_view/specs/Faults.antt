@@ -1,5 +1,6 @@
 -- Why no item begins some bytes, in the words of `cbor_skip`.
-use Rattle.std.specs.Prelude.{◌≡◌, ℕ, false, List, length}
+use Rattle.std.specs.Prelude.{◌≡◌, ℕ, List, length}
+use Rattle.ciborium_ll_grammar.specs.declared.spelling.Spelling.TheVariants.{Any}
 use Rattle.ciborium_ll_grammar.specs.Faults.{Short as EndsShort, Syntax as IsSyntax}
 use Rattle.cbor_skip.specs.ItemFaults.{HasDeepNest, HasEarlyBreak, HasItemFault}
 use Rattle.ciborium_ll_decoder.specs.declared.dec.Error.TheVariants as e
@@ -11,10 +12,10 @@ use Rattle.cbor_view.specs.declared.parse.Fault.TheVariants.{Short, Syntax, Brea
 -- The reason why no item begins the bytes: they end too early, or a fault, a break or a nest stands at this offset. To
 -- a depth of 1 `82 01` is `Short`, `1c` is `Syntax` at 0, and `81 ff` is `Break` at 1.
 abbrev pub HasFault : ℕ → List ℕ → Fault → Type 0
-HasFault depth bytes Short = (fault : HasItemFault false depth bytes) × (fault.answer ≡ EndsShort)
-HasFault depth bytes (Syntax place) = (fault : HasItemFault false depth bytes) × (fault.answer ≡ IsSyntax place)
-HasFault depth bytes (Break place) = (fault : HasEarlyBreak false depth bytes) × (place ≡ length fault.before)
-HasFault depth bytes (Deep place) = (fault : HasDeepNest false depth bytes) × (place ≡ length fault.before)
+HasFault depth bytes Short = (fault : HasItemFault Any depth bytes) × (fault.answer ≡ EndsShort)
+HasFault depth bytes (Syntax place) = (fault : HasItemFault Any depth bytes) × (fault.answer ≡ IsSyntax place)
+HasFault depth bytes (Break place) = (fault : HasEarlyBreak Any depth bytes) × (place ≡ length fault.before)
+HasFault depth bytes (Deep place) = (fault : HasDeepNest Any depth bytes) × (place ≡ length fault.before)
 
 -- The error names a fault of the bytes, as each error over memory does. `Syntax` at 0 is such an error, and `TooLong`
 -- is none.

@@ -1,5 +1,6 @@
 -- The results of `next`: it gives the first item, pair or segment that is left, and leaves the others.
-use Rattle.std.specs.Prelude.{◌≡◌, ◌+◌, ℕ, false, List, [], ◌++◌, Option, Some, None, MatchOption, IfSome}
+use Rattle.std.specs.Prelude.{◌≡◌, ◌+◌, ℕ, List, [], ◌++◌, Option, Some, None, MatchOption, IfSome}
+use Rattle.ciborium_ll_grammar.specs.declared.spelling.Spelling.TheVariants.{Any}
 use Rattle.ciborium_ll_grammar.specs.Items.{IsItem}
 use Rattle.ciborium_ll_grammar.specs.Strings.{Kind, Text}
 use denote.Ref.{Bor}
@@ -22,7 +23,7 @@ CountsDown None None = Unit {0}
 -- The call took the first item, and left the others. It takes `01` of `01 82 02 03`.
 pub record TakesItem (old : Elements) (item : Item) (new : Elements) : Type 0 where
   pub whole : elements_bytes old ≡ item_bytes item ++ elements_bytes new
-  pub is_item : IsItem false (elements_depth old) (item_bytes item)
+  pub is_item : IsItem Any (elements_depth old) (item_bytes item)
   pub levels : item_depth item ≡ elements_depth old
   pub counted : CountsDown (elements_due old) (elements_due new)
   pub same_levels : elements_depth new ≡ elements_depth old
@@ -41,8 +42,8 @@ GivesItem old result new = MatchOption result (HasNoItem old new) (λ item. Take
 -- The call took the first pair, and left the others. It takes `01` and `02` of `01 02 03 04`.
 pub record TakesPair (old : Entries) (key value : Item) (new : Entries) : Type 0 where
   pub whole : entries_bytes old ≡ item_bytes key ++ (item_bytes value ++ entries_bytes new)
-  pub is_key : IsItem false (entries_depth old) (item_bytes key)
-  pub is_value : IsItem false (entries_depth old) (item_bytes value)
+  pub is_key : IsItem Any (entries_depth old) (item_bytes key)
+  pub is_value : IsItem Any (entries_depth old) (item_bytes value)
   pub key_levels : item_depth key ≡ entries_depth old
   pub value_levels : item_depth value ≡ entries_depth old
   pub counted : CountsDown (entries_due old) (entries_due new)

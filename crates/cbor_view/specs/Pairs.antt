@@ -1,5 +1,6 @@
 -- The pairs of a map, and the first one whose key is sought.
-use Rattle.std.specs.Prelude.{◌≡◌, ◌-◌, ℕ, false, List, ◌++◌, Option}
+use Rattle.std.specs.Prelude.{◌≡◌, ◌-◌, ℕ, List, ◌++◌, Option}
+use Rattle.ciborium_ll_grammar.specs.declared.spelling.Spelling.TheVariants.{Any}
 use Rattle.ciborium_ll_grammar.specs.declared.hdr.Header.TheVariants as h
 use Rattle.ciborium_ll_grammar.specs.Title.{IsTitle}
 use Rattle.ciborium_ll_grammar.specs.Items.{IsItem}
@@ -11,17 +12,17 @@ use Rattle.cbor_view.specs.Views.{Opens, closed}
 -- `IsPairOf depth pairs key value`: one of these pairs, joined, has this key and this value (RFC 7049, 2.1).
 -- `01 02 03 04` have the key `03` with the value `04`.
 pub data IsPairOf (depth : ℕ) : List ℕ → List ℕ → List ℕ → Type 0 where
-  first_pair : {key value : List ℕ} (others : List ℕ) → IsItem false depth key → IsItem false depth value
+  first_pair : {key value : List ℕ} (others : List ℕ) → IsItem Any depth key → IsItem Any depth value
       → IsPairOf depth (key ++ (value ++ others)) key value
-  later_pair : {other another others key value : List ℕ} → IsItem false depth other → IsItem false depth another
+  later_pair : {other another others key value : List ℕ} → IsItem Any depth other → IsItem Any depth another
       → IsPairOf depth others key value → IsPairOf depth (other ++ (another ++ others)) key value
 
 -- `IsFirstPair Matches depth pairs value`: of these pairs, joined, whose key matches, the first one has this value. In
 -- `01 02 01 03` the first pair with the key `01` has the value `02`.
 pub data IsFirstPair (Matches : List ℕ → Type 0) (depth : ℕ) : List ℕ → List ℕ → Type 0 where
-  here : {key value : List ℕ} (others : List ℕ) → IsItem false depth key → IsItem false depth value → Matches key
+  here : {key value : List ℕ} (others : List ℕ) → IsItem Any depth key → IsItem Any depth value → Matches key
       → IsFirstPair Matches depth (key ++ (value ++ others)) value
-  later : {other another others value : List ℕ} → IsItem false depth other → IsItem false depth another
+  later : {other another others value : List ℕ} → IsItem Any depth other → IsItem Any depth another
       → (Matches other → ⊥) → IsFirstPair Matches depth others value
       → IsFirstPair Matches depth (other ++ (another ++ others)) value
 

@@ -1,5 +1,6 @@
 -- The parts of an item that stands in memory.
-use Rattle.std.specs.Prelude.{◌≡◌, ◌*◌, ◌-◌, ℕ, false, List, [], ◌∷◌, ◌++◌, length, Option, Some, None}
+use Rattle.std.specs.Prelude.{◌≡◌, ◌*◌, ◌-◌, ℕ, List, [], ◌∷◌, ◌++◌, length, Option, Some, None}
+use Rattle.ciborium_ll_grammar.specs.declared.spelling.Spelling.TheVariants.{Any}
 use Rattle.ciborium_ll_grammar.specs.declared.hdr.Header.{Header}
 use Rattle.ciborium_ll_grammar.specs.declared.hdr.Header.TheVariants as h
 use Rattle.ciborium_ll_grammar.specs.Title.{IsTitle}
@@ -11,7 +12,7 @@ pub record Opens (depth : ℕ) (bytes : List ℕ) (header : Header) (contents : 
   pub title : List ℕ
   pub is_title : IsTitle title header
   pub whole : bytes ≡ title ++ contents
-  pub completes : ∥ Completes false depth header contents ∥₁
+  pub completes : ∥ Completes Any depth header contents ∥₁
 
 -- The bytes begin with a title of this header. `18 01` begins with a title of 1.
 pub record IsOpenedBy (bytes : List ℕ) (header : Header) : Type 0 where
@@ -41,14 +42,14 @@ closed None items = items ++ 0xff ∷ []
 
 -- The bytes are this many items, joined, or any number of them if no count is told. `01 82 02 03` are two items.
 abbrev pub HasItems : ℕ → Option ℕ → List ℕ → Type 0
-HasItems depth (Some count) bytes = AreItems false depth count bytes
-HasItems depth None bytes = (count : ℕ) × AreItems false depth count bytes
+HasItems depth (Some count) bytes = AreItems Any depth count bytes
+HasItems depth None bytes = (count : ℕ) × AreItems Any depth count bytes
 
 -- The bytes are this many pairs, joined, or any number of them if no count is told. A pair is two items (RFC 7049,
 -- 2.1). `01 02 03 04` are two pairs.
 abbrev pub HasPairs : ℕ → Option ℕ → List ℕ → Type 0
-HasPairs depth (Some count) bytes = AreItems false depth (2 * count) bytes
-HasPairs depth None bytes = (count : ℕ) × AreItems false depth (2 * count) bytes
+HasPairs depth (Some count) bytes = AreItems Any depth (2 * count) bytes
+HasPairs depth None bytes = (count : ℕ) × AreItems Any depth (2 * count) bytes
 
 -- One less than a count that is told: 1 for 2, 0 for 0, and `None` for `None`.
 abbrev pub one_less : Option ℕ → Option ℕ

@@ -2,6 +2,7 @@
 
 ghost use Rattle.std.specs.Prelude.{◌≡◌, ◌↔◌, ◌++◌, ◌+◌, ◌≤◌, ℕ, List, false, IfErr, IfOk, IsOk};
 ghost use Rattle.std.specs.Prelude.{MatchOption, Option, Some};
+ghost use Rattle.ciborium_ll_grammar.specs.declared.spelling.Spelling.TheVariants.{Any};
 ghost use Rattle.ciborium_ll_grammar.specs.Title.{IsTitle};
 ghost use Rattle.ciborium_ll_grammar.specs.Items.{IsItem};
 ghost use Rattle.ciborium_ll_grammar.specs.declared.hdr.Float.{Float as AnyFloat};
@@ -30,16 +31,16 @@ pub struct Item<'a> {
     bytes: &'a [u8],
     depth: usize,
     ghost shallow: { depth ≤ MOST_LEVELS },
-    ghost is: { ∥ IsItem false depth bytes.now ∥₁ },
+    ghost is: { ∥ IsItem Any depth bytes.now ∥₁ },
 }
 
 /// Returns the item that begins the bytes, and the rest.
 pub(crate) fn next_item(bytes: &[u8], depth: usize) -> Result<(Item, &[u8]), Fault>
     requires shallow { depth ≤ MAX_DEPTH }
     ensures whole { IfOk result (λ found. bytes.now ≡ found.0.bytes.now ++ found.1.now) }
-    ensures item { IfOk result (λ found. IsItem false depth found.0.bytes.now) }
+    ensures item { IfOk result (λ found. IsItem Any depth found.0.bytes.now) }
     ensures depth { IfOk result (λ found. found.0.depth ≡ depth) }
-    ensures exactly { IsOk result ↔ BeginsWithItem false depth bytes.now }
+    ensures exactly { IsOk result ↔ BeginsWithItem Any depth bytes.now }
     ensures fault { IfErr result (HasFault depth bytes.now) }
 {
     match split_item(bytes, depth) {
@@ -69,9 +70,9 @@ impl<'a> Item<'a> {
     pub fn parse(bytes: &'a [u8], depth: usize) -> Result<Item<'a>, Fault>
         requires shallow { depth ≤ MAX_DEPTH }
         ensures whole { IfOk result (λ item. (rest : List ℕ) × (bytes.now ≡ item_bytes item ++ rest)) }
-        ensures item { IfOk result (λ item. IsItem false depth (item_bytes item)) }
+        ensures item { IfOk result (λ item. IsItem Any depth (item_bytes item)) }
         ensures depth { IfOk result (λ item. item_depth item ≡ depth) }
-        ensures exactly { IsOk result ↔ BeginsWithItem false depth bytes.now }
+        ensures exactly { IsOk result ↔ BeginsWithItem Any depth bytes.now }
         ensures fault { IfErr result (HasFault depth bytes.now) }
     {
         match next_item(bytes, depth) {
@@ -88,9 +89,9 @@ impl<'a> Item<'a> {
     pub fn parse_prefix(bytes: &'a [u8], depth: usize) -> Result<(Item<'a>, &'a [u8]), Fault>
         requires shallow { depth ≤ MAX_DEPTH }
         ensures whole { IfOk result (λ found. bytes.now ≡ item_bytes found.0 ++ found.1.now) }
-        ensures item { IfOk result (λ found. IsItem false depth (item_bytes found.0)) }
+        ensures item { IfOk result (λ found. IsItem Any depth (item_bytes found.0)) }
         ensures depth { IfOk result (λ found. item_depth found.0 ≡ depth) }
-        ensures exactly { IsOk result ↔ BeginsWithItem false depth bytes.now }
+        ensures exactly { IsOk result ↔ BeginsWithItem Any depth bytes.now }
         ensures fault { IfErr result (HasFault depth bytes.now) }
     {
         next_item(bytes, depth)

@@ -1,6 +1,7 @@
 //! The check that bytes begin with an item.
 
 ghost use Rattle.std.specs.Prelude.{◌≡◌, ◌↔◌, ◌++◌, ◌≤◌, ℕ, List, false, IfErr, IfOk, IsOk};
+ghost use Rattle.ciborium_ll_grammar.specs.declared.spelling.Spelling.TheVariants.{Any};
 ghost use Rattle.ciborium_ll_grammar.specs.Items.{IsItem};
 ghost use Rattle.cbor_skip.specs.ItemFaults.{BeginsWithItem};
 ghost use Rattle.cbor_view.specs.Faults.{HasFault, IsOfBytes, NamesFault};
@@ -29,8 +30,8 @@ pub enum Fault {
 pub(crate) fn split_item(bytes: &[u8], depth: usize) -> Result<(&[u8], &[u8]), Fault>
     requires shallow { depth ≤ MAX_DEPTH }
     ensures whole { IfOk result (λ found. bytes.now ≡ found.0.now ++ found.1.now) }
-    ensures item { IfOk result (λ found. IsItem false depth found.0.now) }
-    ensures exactly { IsOk result ↔ BeginsWithItem false depth bytes.now }
+    ensures item { IfOk result (λ found. IsItem Any depth found.0.now) }
+    ensures exactly { IsOk result ↔ BeginsWithItem Any depth bytes.now }
     ensures fault { IfErr result (HasFault depth bytes.now) }
 {
     let mut decoder = Decoder::from(SliceReader::new(bytes));

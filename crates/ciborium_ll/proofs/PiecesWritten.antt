@@ -1,5 +1,5 @@
 -- Laws of pieces that are written one by one.
-use Rattle.std.proofs.Common.{arith, ◌≡◌, ℕ, add-one, false, ◌<◌, ◌^◌, List, [], ◌∷◌, ◌++◌, length, Option, Result, Ok}
+use Rattle.std.proofs.Common.{arith, ◌≡◌, ℕ, add-one, ◌<◌, ◌^◌, List, [], ◌∷◌, ◌++◌, length, Option, Result, Ok}
 use Rattle.std.proofs.Common.{IsErr, refl, IsOk, ◌↔◌, append_assoc, length-append}
 use Rattle.std.proofs.lemmas.List.{append-nil}
 use Rattle.std.proofs.KnownBytes.{Appends-nil}
@@ -7,6 +7,7 @@ use Rattle.ciborium_ll_io.specs.declared.io.Read.{Ghosts as Reader}
 use Rattle.ciborium_ll_io.specs.declared.io.Write.{Ghosts}
 use Rattle.ciborium_ll_decoder.specs.declared.dec.Decoder.{Decoder}
 use Rattle.ciborium_ll_decoder.specs.declared.copy.RecodeError.{RecodeError}
+use Rattle.ciborium_ll_grammar.specs.declared.spelling.Spelling.TheVariants.{Any}
 use Rattle.ciborium_ll_grammar.specs.Faults.{BeginsWithElements}
 use Rattle.ciborium_ll_recode.specs.RecodingTold.{RecodesTold}
 use Rattle.ciborium_ll_decoder.specs.BodyCopies.{sides}
@@ -117,7 +118,7 @@ module _ {R E W F : Type 0} (source : Reader R E) (sink : Ghosts W F) where
   -- The elements at the start of the bytes due are the elements that were written.
   pub copied_same : (count : ℕ) (marks : List Mark) (rest written : List ℕ) (old new : Decoder R) (writer' : W)
       (result : Result (Unit {0}) (RecodeError E F)) → IsRun count (spelling marks) marks
-      → (IsOk result ↔ BeginsWithElements false count (spelling marks ++ rest))
-      → RecodesTold source sink false count (spelling marks ++ rest) written old result (sides new writer')
+      → (IsOk result ↔ BeginsWithElements Any count (spelling marks ++ rest))
+      → RecodesTold source sink Any count (spelling marks ++ rest) written old result (sides new writer')
       → CopiesSame source sink (spelling marks) rest written result new writer'
   copied_same count marks rest written old new writer' result run exactly told = grind (arith, one_run)

@@ -1,7 +1,8 @@
 -- A string that a caller reads body by body, by a loop over `advance`: the bodies read, and the bytes.
-use Rattle.std.proofs.Common.{◌≡◌, Bool, ℕ, ◌⊎◌, List, [], ◌∷◌, ◌++◌, length, Option, Some, None, Ok, Result, refl, sym}
+use Rattle.std.proofs.Common.{◌≡◌, ℕ, ◌⊎◌, List, [], ◌∷◌, ◌++◌, length, Option, Some, None, Ok, Result, refl, sym}
 use Rattle.std.proofs.Common.{ap, ◌∙◌, inl, inr, arith, append_assoc}
 use Rattle.ciborium_ll_io.specs.declared.io.Read.{Ghosts as Reader}
+use Rattle.ciborium_ll_grammar.specs.declared.spelling.Spelling.{Spelling}
 use Rattle.ciborium_ll_grammar.specs.declared.hdr.Header.TheVariants as h
 use Rattle.ciborium_ll_decoder.specs.declared.dec.Decoder.{Decoder}
 use Rattle.ciborium_ll_decoder.specs.declared.dec.Error.{Error}
@@ -66,12 +67,12 @@ module _ {R E : Type 0} (source : Reader R E) (k : Kind) where
       pub passed : ReadsPast source opened behind new
 
   -- `advance` went on within `left` opens that are not closed.
-  pub record Advanced (strict : Bool) (title : List ℕ) (opened : Decoder R) (bodies : List (List ℕ))
+  pub record Advanced (allowed : Spelling) (title : List ℕ) (opened : Decoder R) (bodies : List (List ℕ))
       (result : Result (Option Body) (Error E)) (after : Progress) (new : Decoder R) : Type 0 where
     pub left : ℕ
     pub between : Decoder R
     pub has : HasOpens title left opened bodies between
-    pub ends : EndsAdvance source k strict left between result after new
+    pub ends : EndsAdvance source k allowed left between result after new
     pub steady : IsSteady source opened → IsSteady source new
 
   pub read_start : (len : Option ℕ) (title : List ℕ) (opened now : Decoder R) → IsTitle title (kind_header k len)
@@ -88,73 +89,74 @@ module _ {R E : Type 0} (source : Reader R E) (k : Kind) where
       → IsString k (title ++ body) (body ∷ [])
   one_body title body len all is_title = definite (rw (sym all) at is_title)
 
-  module _ (strict : Bool) {title : List ℕ} {opened new : Decoder R} {bodies : List (List ℕ)} {after : Progress} where
-    -- `advance` passes further opens and breaks.
-    nested : (opens : ℕ) (from : Decoder R) (result : Result (Option Body) (Error E))
-        → HasOpens title opens opened bodies from → AdvancesFrom source k strict opens from result after new
-        → (IsSteady source from → IsSteady source new) → Advanced strict title opened bodies result after new
-    nested opens from result has all steady = record {
-      left = all.left;
-      between = all.between;
-      has = record {
-        strings = has.strings ++ all.nest;
-        within = rw (← append_assoc title has.strings all.nest)
-            (nest_inside k opens all.left (title ++ has.strings) all.nest bodies has.within all.nests);
-        sound = has.sound;
-        passed = ReadsPast-then source opened from all.between has.strings all.nest has.passed all.passed;
-      };
-      ends = all.ends;
-      steady = λ s. steady (has.passed.steady s);
-    }
+  module _ (allowed : Spelling) {title : List ℕ} {opened new : Decoder R} {bodies : List (List ℕ)} {after : Progress}
+    where
+      -- `advance` passes further opens and breaks.
+      nested : (opens : ℕ) (from : Decoder R) (result : Result (Option Body) (Error E))
+          → HasOpens title opens opened bodies from → AdvancesFrom source k allowed opens from result after new
+          → (IsSteady source from → IsSteady source new) → Advanced allowed title opened bodies result after new
+      nested opens from result has all steady = record {
+        left = all.left;
+        between = all.between;
+        has = record {
+          strings = has.strings ++ all.nest;
+          within = rw (← append_assoc title has.strings all.nest)
+              (nest_inside k opens all.left (title ++ has.strings) all.nest bodies has.within all.nests);
+          sound = has.sound;
+          passed = ReadsPast-then source opened from all.between has.strings all.nest has.passed all.passed;
+        };
+        ends = all.ends;
+        steady = λ s. steady (has.passed.steady s);
+      }
 
-    module _ {now : Decoder R} {last : Progress} where
-      -- If the string has a definite length, `advance` finds the one body, and after it the end.
-      pub lone_advanced : (len : ℕ) (result : Result (Option Body) (Error E))
-          → ReadSoFar (Some len) title opened bodies last now → AdvancesTo source k strict last now result after new
-          → ((bodies ≡ []) × FindsOnly source k len opened result after new) ⊎
-          ((result ≡ Ok None) × HasReadBody len opened bodies new)
-      lone_advanced len result so_far advances = grind (arith, advance_definite, title_in_range)
+      module _ {now : Decoder R} {last : Progress} where
+        -- If the string has a definite length, `advance` finds the one body, and after it the end.
+        pub lone_advanced : (len : ℕ) (result : Result (Option Body) (Error E))
+            → ReadSoFar (Some len) title opened bodies last now → AdvancesTo source k allowed last now result after new
+            → ((bodies ≡ []) × FindsOnly source k len opened result after new) ⊎
+            ((result ≡ Ok None) × HasReadBody len opened bodies new)
+        lone_advanced len result so_far advances = grind (arith, advance_definite, title_in_range)
 
-      -- If `advance` finds a body of such a string, it is the first body, and the decoder stands after the title.
-      pub lone_titled : (len : ℕ) (body : Body) → ReadSoFar (Some len) title opened bodies last now
-          → AdvancesTo source k strict last now (Ok (Some body)) after new
-          → (bodies ≡ []) × (body.length ≡ len) × (after ≡ p.Ended) × ReadsPast source opened [] new
-      lone_titled len body so_far advances = elim (lone_advanced len (Ok (Some body)) so_far advances) [
-        | inl (nothing, only) ↦ (
-          nothing,
-          cc (only.found, only.length-is),
-          only.ended,
-          passes_same source opened opened new [] (ReadsPast-none source opened) so_far.settled only.reader only.offset
-              only.none_waits only.mode,
-        )
-        | inr done ↦ absurd (cc done.0)
-      ]
+        -- If `advance` finds a body of such a string, it is the first body, and the decoder stands after the title.
+        pub lone_titled : (len : ℕ) (body : Body) → ReadSoFar (Some len) title opened bodies last now
+            → AdvancesTo source k allowed last now (Ok (Some body)) after new
+            → (bodies ≡ []) × (body.length ≡ len) × (after ≡ p.Ended) × ReadsPast source opened [] new
+        lone_titled len body so_far advances = elim (lone_advanced len (Ok (Some body)) so_far advances) [
+          | inl (nothing, only) ↦ (
+            nothing,
+            cc (only.found, only.length-is),
+            only.ended,
+            passes_same source opened opened new [] (ReadsPast-none source opened) so_far.settled only.reader only.offset
+                only.none_waits only.mode,
+          )
+          | inr done ↦ absurd (cc done.0)
+        ]
 
-      -- If the string has an indefinite length, `advance` goes on within the opens that are not closed.
-      pub advanced : (IsSteady source now → IsSteady source new) → (result : Result (Option Body) (Error E))
-          → ReadSoFar None title opened bodies last now → AdvancesTo source k strict last now result after new
-          → Advanced strict title opened bodies result after new
-      advanced steady result so_far advances = elim so_far.far [
-        | inl start ↦ nested 1 opened result (rw start.nothing (record {
-          strings = [];
-          within = one_open so_far.is_title none;
-          sound = tt;
-          passed = ReadsPast-none source opened;
-        })) (advance_opened source k strict opened now new result after so_far.settled start.back
-            (rw start.fresh at advances)) (λ s. steady (rw start.back.reader s))
-        | inr way ↦ nested way.0 now result way.2 (rw way.1 at advances) steady
-      ]
+        -- If the string has an indefinite length, `advance` goes on within the opens that are not closed.
+        pub advanced : (IsSteady source now → IsSteady source new) → (result : Result (Option Body) (Error E))
+            → ReadSoFar None title opened bodies last now → AdvancesTo source k allowed last now result after new
+            → Advanced allowed title opened bodies result after new
+        advanced steady result so_far advances = elim so_far.far [
+          | inl start ↦ nested 1 opened result (rw start.nothing (record {
+            strings = [];
+            within = one_open so_far.is_title none;
+            sound = tt;
+            passed = ReadsPast-none source opened;
+          })) (advance_opened source k allowed opened now new result after so_far.settled start.back
+              (rw start.fresh at advances)) (λ s. steady (rw start.back.reader s))
+          | inr way ↦ nested way.0 now result way.2 (rw way.1 at advances) steady
+        ]
 
   -- ---- strings of both kinds
 
-  module _ (strict : Bool) (title : List ℕ) (opened now new : Decoder R) (bodies : List (List ℕ))
+  module _ (allowed : Spelling) (title : List ℕ) (opened now new : Decoder R) (bodies : List (List ℕ))
       (last after : Progress) (steady : IsSteady source now → IsSteady source new) where
     begun_more : (len : Option ℕ) (body : Body) (ended : Decoder R) → ReadSoFar len title opened bodies last now
-        → AdvancesTo source k strict last now (Ok (Some body)) after new
+        → AdvancesTo source k allowed last now (Ok (Some body)) after new
         → (reads : ReadsRest source k [] body.length new ended)
         → HasBegun len title opened (bodies ++ reads.read ∷ []) after ended
     begun_more (Some len) body ended so_far advances reads =
-        let lone = lone_titled strict len body so_far advances in (
+        let lone = lone_titled allowed len body so_far advances in (
           record {
             reads = record {
               read = reads.read;
@@ -167,7 +169,7 @@ module _ {R E : Type 0} (source : Reader R E) (k : Kind) where
           lone.2,
         )
     begun_more None body ended so_far advances reads =
-        let all = advanced strict steady (Ok (Some body)) so_far advances in
+        let all = advanced allowed steady (Ok (Some body)) so_far advances in
         let t = all.ends.pulled.title in
         let b = reads.read in (
           all.left,
@@ -189,7 +191,7 @@ module _ {R E : Type 0} (source : Reader R E) (k : Kind) where
 
     -- A loop that reads the next body keeps the invariant.
     pub read_more : (len : Option ℕ) (body : Body) (ended : Decoder R)
-        → ReadSoFar len title opened bodies last now → AdvancesTo source k strict last now (Ok (Some body)) after new
+        → ReadSoFar len title opened bodies last now → AdvancesTo source k allowed last now (Ok (Some body)) after new
         → (reads : ReadsRest source k [] body.length new ended)
         → ReadSoFar len title opened (bodies ++ reads.read ∷ []) after ended
     read_more len body ended so_far advances reads = record {
@@ -200,8 +202,8 @@ module _ {R E : Type 0} (source : Reader R E) (k : Kind) where
 
     -- If `advance` finds the end, the whole string was read.
     pub read_whole : (len : Option ℕ) → ReadSoFar len title opened bodies last now
-        → AdvancesTo source k strict last now (Ok None) after new → HasReadString title opened bodies new
-    read_whole (Some len) so_far advances = elim (lone_advanced strict len (Ok None) so_far advances) [
+        → AdvancesTo source k allowed last now (Ok None) after new → HasReadString title opened bodies new
+    read_whole (Some len) so_far advances = elim (lone_advanced allowed len (Ok None) so_far advances) [
       | inl only ↦ absurd (cc only.1.found)
       | inr (same, done) ↦ record {
         behind = done.reads.read;
@@ -211,7 +213,7 @@ module _ {R E : Type 0} (source : Reader R E) (k : Kind) where
       }
     ]
     read_whole None so_far advances =
-        let all = advanced strict steady (Ok None) so_far advances in
+        let all = advanced allowed steady (Ok None) so_far advances in
         let strings = all.has.strings in
         let break = alone_bytes all.ends.pulled.title h.Break all.ends.pulled.is_title refl in
         record {

@@ -1,8 +1,9 @@
 -- Headers copied from a decoder to a writer.
-use Rattle.std.specs.Prelude.{◌≡◌, ℕ, false, ◌+◌, ◌<◌, ◌≤◌, List, [], ◌∷◌, ◌++◌, length, take, drop, Some, Result, Ok}
+use Rattle.std.specs.Prelude.{◌≡◌, ℕ, ◌+◌, ◌<◌, ◌≤◌, List, [], ◌∷◌, ◌++◌, length, take, drop, Some, Result, Ok}
 use Rattle.std.specs.Prelude.{Err}
 use Rattle.ciborium_ll_io.specs.declared.io.Read.{Ghosts as Reader}
 use Rattle.ciborium_ll_io.specs.declared.io.Write.{Ghosts as Writer}
+use Rattle.ciborium_ll_grammar.specs.declared.spelling.Spelling.TheVariants.{Any}
 use Rattle.ciborium_ll_grammar.specs.declared.hdr.Header.{Header}
 use Rattle.ciborium_ll_decoder.specs.declared.dec.Decoder.{Decoder}
 use Rattle.ciborium_ll_decoder.specs.declared.dec.Error.{Error}
@@ -11,7 +12,7 @@ use Rattle.ciborium_ll_decoder.specs.declared.copy.RecodeError.TheVariants as r
 use Rattle.ciborium_ll_decoder.specs.declared.dec.Error.TheVariants as e
 use Rattle.ciborium_ll_grammar.specs.Title.{IsTitle, shortest_title, BeginsRefused, IsCutTitle}
 use Rattle.ciborium_ll_decoder.specs.Decoding.{offset_limit, view, IsSteady, MovesOn, ReadsPast, DecoderPullAnswer}
-use Rattle.ciborium_ll_decoder.specs.Decoding.{strict_of}
+use Rattle.ciborium_ll_decoder.specs.Decoding.{spelling_of}
 use Rattle.ciborium_ll_decoder.specs.BodyCopies.{Sides, sides}
 use Rattle.ciborium_ll_io.specs.Writes.{WritesAll, WritesFront}
 
@@ -89,7 +90,7 @@ module _ {R E W F : Type 0} (source : Reader R E) (sink : Writer W F) where
   -- The decoder is not strict, and the reader gives the bytes that it tells. The writer has room for as many bytes, and
   -- the offset fits, with 8 to spare. If `18 17` is due, this is room for 2 bytes.
   pub record IsReadyForTitles (now : Sides R W) (due written : List ℕ) : Type 0 where
-    pub lenient : strict_of now.decoder ≡ false
+    pub lenient : spelling_of now.decoder ≡ Any
     pub steady : IsSteady source now.decoder
     pub due-told : view source now.decoder ≡ Some due
     pub written-told : sink.written now.writer ≡ Some written

@@ -1,7 +1,8 @@
 -- The common parts of the relations of the decoder's calls.
-use Rattle.std.proofs.Common.{refl, ◌+◌, [], ◌≡◌, ℕ, false, ◌⊎◌, List, ◌++◌, Option, Some, None, IfSome, Result, Ok}
+use Rattle.std.proofs.Common.{refl, ◌+◌, [], ◌≡◌, ℕ, ◌⊎◌, List, ◌++◌, Option, Some, None, IfSome, Result, Ok}
 use Rattle.std.proofs.Common.{Err, IsErrAnd, ◌<◌, ◌≤◌, ◌-◌, ◌^◌, ◌∙◌, arith, append_assoc, append-nil, length-append}
 use Rattle.std.proofs.KnownBytes.{Consumes-trans}
+use Rattle.ciborium_ll_grammar.specs.declared.spelling.Spelling.TheVariants.{Any}
 use Rattle.ciborium_ll_grammar.specs.declared.hdr.Header.{Header}
 use Rattle.ciborium_ll_io.specs.declared.io.Read.{Ghosts}
 use Rattle.ciborium_ll_decoder.specs.declared.dec.Decoder.{Decoder}
@@ -11,7 +12,7 @@ use Rattle.ciborium_ll_text.proofs.Lists.{length_zero}
 use Rattle.ciborium_ll_grammar.specs.Title.{shortest_title, title_len, IsInRange}
 use Rattle.ciborium_ll_grammar.proofs.TitleLaws.{IsTitle-shortest}
 use Rattle.ciborium_ll_decoder.specs.Decoding.{Begins, IsSteady, MovesOn, ReadsPast, PullsTitle, DecoderPullAnswer, RefusesTitle}
-use Rattle.ciborium_ll_decoder.specs.Decoding.{TakesBack, PullsAgain, strict_of}
+use Rattle.ciborium_ll_decoder.specs.Decoding.{TakesBack, PullsAgain, spelling_of}
 
 -- The exit of a `?` answers with the error that it was given. A caller that names this lemma needs no search.
 pub exit_is : {T E : Type 0} (answer : Result T E) (error : E) → IsErrAnd answer (λ given. given ≡ error)
@@ -30,7 +31,7 @@ nearer old between new risen rises = omega (arith, risen, rises, new.covered)
 -- A `pull` of a waiting header gives that header, and leaves the reader alone.
 pub waiting_pulled : {R E : Type 0} (source : Ghosts R E) (old new : Decoder R) (header : Header) → IsInRange header
     → old.waiting ≡ Some header → new.waiting ≡ None → new.reader ≡ old.reader
-    → new.offset ≡ old.offset + title_len header → strict_of new ≡ strict_of old → PullsTitle source old header new
+    → new.offset ≡ old.offset + title_len header → spelling_of new ≡ spelling_of old → PullsTitle source old header new
 waiting_pulled source old new header range waits taken reader offset mode =
     search (IsTitle-shortest, arith)
 
@@ -114,7 +115,7 @@ module _ {R E : Type 0} (source : Ghosts R E) where
       grind (arith, Consumes-trans, length-append {A = ℕ}, stayed, waited)
 
   -- A decoder that is not strict refuses first bytes alone.
-  pub lenient_refuses : (old : Decoder R) (place : ℕ) (new : Decoder R) → strict_of old ≡ false
+  pub lenient_refuses : (old : Decoder R) (place : ℕ) (new : Decoder R) → spelling_of old ≡ Any
       → DecoderPullAnswer source old (Err (e.Syntax place)) new → RefusesTitle source old place new
   lenient_refuses old place new lenient h4 = grind arith
 
@@ -126,5 +127,5 @@ passes_settled source old new bytes passed h5 = grind arith
 -- The bytes also passed for another decoder with the same reader and offset, on which no header waits either.
 pub passes_same : {R E : Type 0} (source : Ghosts R E) (old now now' : Decoder R) (bytes : List ℕ)
     → ReadsPast source old bytes now → now.waiting ≡ None → now'.reader ≡ now.reader → now'.offset ≡ now.offset
-    → now'.waiting ≡ None → strict_of now' ≡ strict_of now → ReadsPast source old bytes now'
+    → now'.waiting ≡ None → spelling_of now' ≡ spelling_of now → ReadsPast source old bytes now'
 passes_same source old now now' bytes passed none reader offset none' mode = grind arith

@@ -1,5 +1,5 @@
 -- Opens and breaks in a row, and the first title of a string. The file re-exports the lemmas on titles of one byte.
-use Rattle.std.proofs.Common.{Err, IsTrue, [], ◌≡◌, ℕ, suc, ◌+◌, ◌≤◌, Bool, ◌⊎◌, List, ◌++◌, length, Option, Some, None}
+use Rattle.std.proofs.Common.{Err, [], ◌≡◌, ℕ, suc, ◌+◌, ◌≤◌, ◌⊎◌, List, ◌++◌, length, Option, Some, None}
 use Rattle.std.proofs.Common.{Result, Ok, refl, sym, ap, ◌∙◌, inl, inr, arith, append_assoc, append-nil, length-append}
 use Rattle.ciborium_ll_io.specs.declared.io.Read.{Ghosts}
 use Rattle.ciborium_ll_decoder.specs.declared.dec.Decoder.{Decoder}
@@ -8,10 +8,12 @@ use Rattle.ciborium_ll_decoder.specs.declared.dec.Error.TheVariants as e
 use Rattle.ciborium_ll_decoder.specs.declared.seg.Body.{Body}
 use Rattle.ciborium_ll_decoder.specs.declared.seg.Progress.{Progress}
 use Rattle.ciborium_ll_decoder.specs.declared.seg.Progress.TheVariants as p
+use Rattle.ciborium_ll_grammar.specs.declared.spelling.Spelling.{Spelling}
+use Rattle.ciborium_ll_grammar.specs.declared.spelling.Spelling.TheVariants.{Shortest}
 use Rattle.ciborium_ll_grammar.specs.Title.{IsTitle, shortest_title, title_len, IsInRange}
 use Rattle.ciborium_ll_grammar.specs.Strings.{Kind, kind_header}
 use Rattle.ciborium_ll_grammar.proofs.OpenStrings.{IsInsideAt}
-use Rattle.ciborium_ll_decoder.specs.Decoding.{Begins, ReadsPast, TakesBack, strict_of}
+use Rattle.ciborium_ll_decoder.specs.Decoding.{Begins, ReadsPast, TakesBack, spelling_of}
 use Rattle.ciborium_ll_decoder.specs.Segments.{Nests, in_place, deeper, back, FindsBody, EndsAdvance, AdvancesFrom}
 use Rattle.ciborium_ll_grammar.proofs.TitleLaws.{one_title, IsTitle-shortest}
 pub use Rattle.ciborium_ll_grammar.proofs.AloneLaws.{alone_bytes, open_alone, open_length, open_in_range, title_some}
@@ -87,33 +89,33 @@ same_length k a b e = grind arith
 
 module _ {R E : Type 0} (source : Ghosts R E) (k : Kind) where
   -- If the first title is a waiting header of the kind, and `advance` ends with it, the header is that of a body.
-  waiting_found : (strict : Bool) (len : Option ℕ) (old new : Decoder R) (result : Result (Option Body) (Error E))
+  waiting_found : (allowed : Spelling) (len : Option ℕ) (old new : Decoder R) (result : Result (Option Body) (Error E))
       (progress : Progress) → old.waiting ≡ Some (kind_header k len)
-      → EndsAdvance source k strict 0 old result progress new → (body : Body) × (result ≡ Ok (Some body))
+      → EndsAdvance source k allowed 0 old result progress new → (body : Body) × (result ≡ Ok (Some body))
       × (len ≡ Some body.length) × FindsBody source k 0 old body progress new
-  waiting_found strict len old new (Ok (Some body)) progress waits ends =
+  waiting_found allowed len old new (Ok (Some body)) progress waits ends =
       (body, refl, same_length k len (Some body.length) (rw waits at ends.pulled.waited).0, ends)
-  waiting_found strict len old new (Ok None) progress waits ends = absurd (let f = ends.last in cc)
-  waiting_found strict len old new (Err (e.Io fault)) progress waits ends = absurd cc
-  waiting_found strict len old new (Err (e.Syntax place)) progress waits ends = grind (arith, same_length)
-  waiting_found strict len old new (Err e.TooLong) progress waits ends = grind arith
-  waiting_found strict len old new (Err e.Waiting) progress waits ends = absurd ends
+  waiting_found allowed len old new (Ok None) progress waits ends = absurd (let f = ends.last in cc)
+  waiting_found allowed len old new (Err (e.Io fault)) progress waits ends = absurd cc
+  waiting_found allowed len old new (Err (e.Syntax place)) progress waits ends = grind (arith, same_length)
+  waiting_found allowed len old new (Err e.TooLong) progress waits ends = grind arith
+  waiting_found allowed len old new (Err e.Waiting) progress waits ends = absurd ends
 
   -- `advance` over a waiting header of the kind finds a body, or passes over the open that the header is.
-  waiting_first : (strict : Bool) (len : Option ℕ) (old new : Decoder R) (result : Result (Option Body) (Error E))
+  waiting_first : (allowed : Spelling) (len : Option ℕ) (old new : Decoder R) (result : Result (Option Body) (Error E))
       (progress : Progress) → IsInRange (kind_header k len) → old.waiting ≡ Some (kind_header k len)
-      → (all : AdvancesFrom source k strict 0 old result progress new)
+      → (all : AdvancesFrom source k allowed 0 old result progress new)
       → ((body : Body) × (result ≡ Ok (Some body)) × (len ≡ Some body.length)
       × FindsBody source k 0 old body progress new)
       ⊎ ((len ≡ None) × (first : FirstOpen k all.nest all.left) × (first.title ≡ shortest_title (kind_header k len)))
-  waiting_first strict len old new result progress range waits all =
+  waiting_first allowed len old new result progress range waits all =
       let title = shortest_title (kind_header k len) in
       let is_title = IsTitle-shortest (kind_header k len) range in
       let waited = IfSome-at old.waiting _ (λ h. (all.between ≡ old) ⊎ Begins (shortest_title h) all.nest) waits
       all.passed.waited in
       elim (nest_first k all.nest all.left all.nests) [
         | inl none ↦ elim waited [
-          | inl same ↦ inl (waiting_found strict len old new result progress waits (rw (same, none.1) at all.ends))
+          | inl same ↦ inl (waiting_found allowed len old new result progress waits (rw (same, none.1) at all.ends))
           | inr begins ↦ absurd (let e = ap length (sym none.0 ∙ begins.1) in
               omega (arith, e, title_some title _ is_title, length-append {A = ℕ}))
         ]
@@ -138,7 +140,7 @@ module _ {R E : Type 0} (source : Ghosts R E) (k : Kind) where
     pub reader : new.reader ≡ pulled.reader
     pub offset : new.offset ≡ pulled.offset
     pub none_waits : new.waiting ≡ None
-    pub mode : strict_of new ≡ strict_of pulled
+    pub mode : spelling_of new ≡ spelling_of pulled
     pub ended : progress ≡ p.Ended
 
   only_found : (len : ℕ) (pulled pushed new : Decoder R) (body : Body) (progress : Progress)
@@ -146,12 +148,12 @@ module _ {R E : Type 0} (source : Ghosts R E) (k : Kind) where
       → FindsBody source k 0 pushed body progress new → FindsOnly len pulled (Ok (Some body)) progress new
   only_found len pulled pushed new body progress taken lengths found = grind arith
 
-  pub advance_definite : (strict : Bool) (len : ℕ) (pulled pushed new : Decoder R)
+  pub advance_definite : (allowed : Spelling) (len : ℕ) (pulled pushed new : Decoder R)
       (result : Result (Option Body) (Error E)) (progress : Progress) → IsInRange (kind_header k (Some len))
       → TakesBack source pulled (kind_header k (Some len)) pushed
-      → AdvancesFrom source k strict 0 pushed result progress new → FindsOnly len pulled result progress new
-  advance_definite strict len pulled pushed new result progress range taken all =
-      elim (waiting_first strict (Some len) pushed new result progress range taken.waits all) [
+      → AdvancesFrom source k allowed 0 pushed result progress new → FindsOnly len pulled result progress new
+  advance_definite allowed len pulled pushed new result progress range taken all =
+      elim (waiting_first allowed (Some len) pushed new result progress range taken.waits all) [
         | inl only ↦ rw only.1 (only_found len pulled pushed new only.0 progress taken only.2 only.3)
         | inr first ↦ absurd (let none = first.0 in cc)
       ]
@@ -163,19 +165,19 @@ module _ {R E : Type 0} (source : Ghosts R E) (k : Kind) where
   passes_behind pulled pushed between more h4 taken passed = grind arith
 
   -- `advance` over a waiting open is `advance` inside one open, from the decoder before the push.
-  pub advance_opened : (strict : Bool) (pulled pushed new : Decoder R) (result : Result (Option Body) (Error E))
+  pub advance_opened : (allowed : Spelling) (pulled pushed new : Decoder R) (result : Result (Option Body) (Error E))
       (progress : Progress) → pulled.waiting ≡ None
-      → TakesBack source pulled (kind_header k None) pushed → AdvancesFrom source k strict 0 pushed result progress new
-      → AdvancesFrom source k strict 1 pulled result progress new
-  advance_opened strict pulled pushed new result progress none taken all =
-      elim (waiting_first strict None pushed new result progress (open_in_range k) taken.waits all) [
+      → TakesBack source pulled (kind_header k None) pushed → AdvancesFrom source k allowed 0 pushed result progress new
+      → AdvancesFrom source k allowed 1 pulled result progress new
+  advance_opened allowed pulled pushed new result progress none taken all =
+      elim (waiting_first allowed None pushed new result progress (open_in_range k) taken.waits all) [
         | inl only ↦ absurd (let some = only.2 in cc)
         | inr opened ↦ (
             let first = opened.1 in
             let whole : all.nest ≡ shortest_title (kind_header k None) ++ first.more =
             first.whole ∙ ap (λ (z : List ℕ). z ++ first.more) opened.2 in
             let passed = passes_behind pulled pushed all.between first.more none taken (rw whole at all.passed) in
-            let shallow : IsTrue strict → 1 + length first.more ≤ 1 = grind (arith, open_length) in
+            let shallow : allowed ≡ Shortest → 1 + length first.more ≤ 1 = grind (arith, open_length) in
             search
             )
       ]

@@ -1,5 +1,5 @@
 -- The segments of a string, read one by one after its open.
-use Rattle.std.proofs.Common.{[], ◌≡◌, ℕ, Bool, ◌<◌, ◌≤◌, ◌⊎◌, List, ◌∷◌, ◌++◌, length, Option, Some, None, IsTrue}
+use Rattle.std.proofs.Common.{[], ◌≡◌, ℕ, ◌<◌, ◌≤◌, ◌⊎◌, List, ◌∷◌, ◌++◌, length, Option, Some, None}
 use Rattle.std.proofs.Common.{Result, Ok, refl, sym, ap, ◌∙◌, inl, inr, arith, append_assoc, append-nil, length-append}
 use Rattle.ciborium_ll_io.specs.declared.io.Read.{Ghosts as Reader}
 use Rattle.ciborium_ll_decoder.specs.declared.dec.Decoder.{Decoder}
@@ -7,12 +7,14 @@ use Rattle.ciborium_ll_decoder.specs.declared.dec.Error.{Error}
 use Rattle.ciborium_ll_decoder.specs.declared.seg.Body.{Body}
 use Rattle.ciborium_ll_decoder.specs.declared.seg.Progress.{Progress}
 use Rattle.ciborium_ll_decoder.specs.declared.seg.Progress.TheVariants as p
+use Rattle.ciborium_ll_grammar.specs.declared.spelling.Spelling.{Spelling}
+use Rattle.ciborium_ll_grammar.specs.declared.spelling.Spelling.TheVariants.{Shortest}
 use Rattle.ciborium_ll_grammar.specs.Title.{shortest_title}
 use Rattle.ciborium_ll_grammar.specs.Strings.{Kind, kind_header, definite, none}
 use Rattle.ciborium_ll_grammar.proofs.OpenStrings.{IsInsideAt, one_open, more_open}
 use Rattle.ciborium_ll_grammar.specs.Elements.{AreWritable, Piece, spelling, pieces}
 use Rattle.ciborium_ll_grammar.specs.Faults.{IsRefusedIn}
-use Rattle.ciborium_ll_decoder.specs.Decoding.{ReadsPast, IsSteady, TakesBack, strict_of}
+use Rattle.ciborium_ll_decoder.specs.Decoding.{ReadsPast, IsSteady, TakesBack, spelling_of}
 use Rattle.ciborium_ll_decoder.specs.Finishing.{ReadsRest}
 use Rattle.ciborium_ll_decoder.specs.Segments.{PullsOther, FindsOther, EndsAdvance, AdvancesFrom, AdvancesTo}
 use Rattle.ciborium_ll_grammar.proofs.TitleLaws.{IsTitle-shortest}
@@ -32,11 +34,11 @@ pub some_open : (k : Kind) (opens : ℕ) (u : List ℕ) (bs : List (List ℕ)) �
 some_open k opens u bs i = grind arith
 
 -- Inside an open a break is not misplaced. A header that `advance` refuses there may not stand within the string.
-pub other_inside : {R E : Type 0} (source : Reader R E) (k : Kind) (strict : Bool) (opens : ℕ) (old : Decoder R)
-    (at : ℕ) (progress : Progress) (new : Decoder R) → strict_of old ≡ strict → 0 < opens
-    → FindsOther source k strict opens old at progress new
-    → PullsOther source (IsRefusedIn (strict_of old) k) old at new
-other_inside source k strict opens old at progress new same some found = grind arith
+pub other_inside : {R E : Type 0} (source : Reader R E) (k : Kind) (allowed : Spelling) (opens : ℕ) (old : Decoder R)
+    (at : ℕ) (progress : Progress) (new : Decoder R) → spelling_of old ≡ allowed → 0 < opens
+    → FindsOther source k allowed opens old at progress new
+    → PullsOther source (IsRefusedIn (spelling_of old) k) old at new
+other_inside source k allowed opens old at progress new same some found = grind arith
 
 pub sound_none : (k : Kind) → AreWritable k []
 sound_none k = tt
@@ -54,7 +56,7 @@ module _ {R E : Type 0} (source : Reader R E) (k : Kind) where
     pub sound : AreWritable k bodies
     pub passed : ReadsPast source opened strings now
     -- In a strict string one open is not closed, and the bytes are the spelling of the pieces.
-    pub tight : IsTrue (strict_of opened) → (opens ≡ 1) × (strings ≡ spelling (pieces k bodies))
+    pub tight : spelling_of opened ≡ Shortest → (opens ≡ 1) × (strings ≡ spelling (pieces k bodies))
 
   -- The open waits.
   pub record IsAtFront (bodies : List (List ℕ)) (opened : Decoder R) (progress : Progress) (now : Decoder R) : Type 0
@@ -82,7 +84,7 @@ module _ {R E : Type 0} (source : Reader R E) (k : Kind) where
     pub left : ℕ
     pub between : Decoder R
     pub among : IsAmong left bodies opened between
-    pub ends : EndsAdvance source k (strict_of opened) left between result progress new
+    pub ends : EndsAdvance source k (spelling_of opened) left between result progress new
     pub rises : now.offset ≤ between.offset
     pub steady : IsSteady source opened → IsSteady source new
 
@@ -98,7 +100,7 @@ module _ {R E : Type 0} (source : Reader R E) (k : Kind) where
   -- `advance` passes over more opens and breaks.
   among_nest : {opens : ℕ} {bodies : List (List ℕ)} {opened begun : Decoder R} (now : Decoder R)
       {result : Result (Option Body) (Error E)} {progress : Progress} {new : Decoder R}
-      → IsAmong opens bodies opened begun → AdvancesFrom source k (strict_of opened) opens begun result progress new
+      → IsAmong opens bodies opened begun → AdvancesFrom source k (spelling_of opened) opens begun result progress new
       → now.offset ≤ begun.offset → (IsSteady source opened → IsSteady source new)
       → AdvancesAmong bodies opened now result progress new
   among_nest {opens} {bodies} {opened} {begun} now among all before steady =
@@ -106,30 +108,30 @@ module _ {R E : Type 0} (source : Reader R E) (k : Kind) where
       rw append_assoc at (nest_inside k opens all.left (shortest_title (kind_header k None) ++ among.strings)
       all.nest bodies among.within all.nests) in
       let passed = ReadsPast-then source opened begun all.between among.strings all.nest among.passed all.passed in
-      let tight : IsTrue (strict_of opened) → (all.left ≡ 1)
+      let tight : spelling_of opened ≡ Shortest → (all.left ≡ 1)
       × (among.strings ++ all.nest ≡ spelling (pieces k bodies)) =
       grind (arith, nests_none, append-nil {A = ℕ}) in
       let further : IsAmong all.left bodies opened all.between = search in
       let rises : now.offset ≤ all.between.offset = omega (arith, before, all.passed.offset) in
       search
 
-  pub advances_among : (bodies : List (List ℕ)) (opened now : Decoder R) (strict : Bool)
+  pub advances_among : (bodies : List (List ℕ)) (opened now : Decoder R) (allowed : Spelling)
       (result : Result (Option Body) (Error E)) (progress progress' : Progress) (new : Decoder R)
-      → strict ≡ strict_of opened → StringSoFar bodies opened progress now
-      → AdvancesTo source k strict progress now result progress' new
+      → allowed ≡ spelling_of opened → StringSoFar bodies opened progress now
+      → AdvancesTo source k allowed progress now result progress' new
       → (IsSteady source now → IsSteady source new) → AdvancesAmong bodies opened now result progress' new
-  advances_among bodies opened now strict result progress progress' new same so_far goes_on steady =
+  advances_among bodies opened now allowed result progress progress' new same so_far goes_on steady =
       elim so_far.far [
         | inl start ↦ (
-            let from : AdvancesFrom source k (strict_of opened) 0 now result progress' new =
+            let from : AdvancesFrom source k (spelling_of opened) 0 now result progress' new =
             rw (same, start.fresh) at goes_on in
-            let all = advance_opened source k (strict_of opened) opened now new result progress' so_far.none_waits
+            let all = advance_opened source k (spelling_of opened) opened now new result progress' so_far.none_waits
             start.back from in
             rw start.nothing (among_nest now (among_first opened) all (omega (arith, start.back.offset))
             (λ s. steady (so_far.steady s)))
             )
         | inr way ↦ (
-            let all : AdvancesFrom source k (strict_of opened) way.opens now result progress' new =
+            let all : AdvancesFrom source k (spelling_of opened) way.opens now result progress' new =
             rw (same, way.counts) at goes_on in
             among_nest now way.among all (omega arith) (λ s. steady (so_far.steady s))
             )
@@ -159,7 +161,7 @@ module _ {R E : Type 0} (source : Reader R E) (k : Kind) where
       let sound = AreWritable-append k bodies (b ∷ []) among.sound (sound_body k b reads.sound) in
       let passed =
       rw append_assoc at (ReadsPast-then source opened new ended (among.strings ++ t) b pulled reads.passed) in
-      let tight : IsTrue (strict_of opened) → (all.left ≡ 1)
+      let tight : spelling_of opened ≡ Shortest → (all.left ≡ 1)
       × (among.strings ++ (t ++ b) ≡ spelling (pieces k (bodies ++ b ∷ []))) = λ on.
       let only = all.ends.pulled.strict (among.passed.mode ∙ on)
       (passes_settled source opened all.between among.strings among.passed settled) in

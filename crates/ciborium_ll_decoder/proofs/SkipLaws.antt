@@ -1,7 +1,8 @@
 -- A string that is read to its end.
-use Rattle.std.proofs.Common.{[], ◌≡◌, Bool, ℕ, zero, suc, ◌-◌, ◌^◌, ◌<◌, ◌⊎◌, List, ◌∷◌, ◌++◌, Option, Some, None}
+use Rattle.std.proofs.Common.{[], ◌≡◌, ℕ, zero, suc, ◌-◌, ◌^◌, ◌<◌, ◌⊎◌, List, ◌∷◌, ◌++◌, Option, Some, None}
 use Rattle.std.proofs.Common.{Result, Ok, Err, refl, inl, inr, arith, append_assoc, length-append}
 use Rattle.ciborium_ll_io.specs.declared.io.Read.{Ghosts as Reader}
+use Rattle.ciborium_ll_grammar.specs.declared.spelling.Spelling.{Spelling}
 use Rattle.ciborium_ll_grammar.specs.declared.hdr.Header.TheVariants as h
 use Rattle.ciborium_ll_decoder.specs.declared.dec.Decoder.{Decoder}
 use Rattle.ciborium_ll_decoder.specs.declared.dec.Error.{Error}
@@ -12,7 +13,7 @@ use Rattle.ciborium_ll_decoder.specs.declared.seg.Progress.TheVariants as p
 use Rattle.ciborium_ll_grammar.specs.Title.{IsInRange, shortest_title, title_len}
 use Rattle.ciborium_ll_grammar.specs.Strings.{Kind, kind_header, IsString, definite, indefinite}
 use Rattle.ciborium_ll_grammar.proofs.OpenStrings.{IsInsideAt, one_open, more_open}
-use Rattle.ciborium_ll_decoder.specs.Decoding.{DecoderPullAnswer, ReadsPast, IsSteady, TakesBack, strict_of}
+use Rattle.ciborium_ll_decoder.specs.Decoding.{DecoderPullAnswer, ReadsPast, IsSteady, TakesBack, spelling_of}
 use Rattle.ciborium_ll_decoder.specs.Segments.{FindsOther, AdvancesTo, NestsTooDeep}
 use Rattle.ciborium_ll_decoder.specs.Finishing.{ReadsRest, BeginsRest, EndsBody}
 use Rattle.ciborium_ll_decoder.specs.Skipping.{SkipsWhole, SkipsInside, MeetsNoTitle, MeetsOther, MeetsBody}
@@ -94,20 +95,20 @@ module _ {R E : Type 0} (source : Reader R E) (k : Kind) where
       → SkipsString source k (Some len) room opened result new
   definite_skipped len room opened new result range reads = grind (arith, whole_body)
 
-  module _ (strict : Bool) (len : ℕ) (opened now new : Decoder R) (progress progress' : Progress)
+  module _ (allowed : Spelling) (len : ℕ) (opened now new : Decoder R) (progress progress' : Progress)
       (so_far : AloneSoFar len opened progress now) where
     -- `advance` gives the body first, and then `None`.
     lone_found : (result : Result (Option Body) (Error E))
-        → AdvancesTo source k strict progress now result progress' new
+        → AdvancesTo source k allowed progress now result progress' new
         → FindsOnly source k len opened result progress' new ⊎
         ((result ≡ Ok None) × ReadsRest source k [] len opened new)
     lone_found result advances = grind (arith, advance_definite)
 
-    lone_end : AdvancesTo source k strict progress now (Ok None) progress' new
+    lone_end : AdvancesTo source k allowed progress now (Ok None) progress' new
         → SkipsWhole source k (Some len) opened new
     lone_end advances = grind (arith, lone_found, whole_body)
 
-    lone_error : (error : Error E) → AdvancesTo source k strict progress now (Err error) progress' new → ⊥
+    lone_error : (error : Error E) → AdvancesTo source k allowed progress now (Err error) progress' new → ⊥
     lone_error error advances = grind (arith, lone_found)
 
     -- The body that `advance` gave, and the decoder before its bytes.
@@ -121,7 +122,7 @@ module _ {R E : Type 0} (source : Reader R E) (k : Kind) where
         → LoneBody body
     lone_is body only none = grind (arith, passes_same source opened opened new [] (ReadsPast-none source opened))
 
-    lone_body : (body : Body) → AdvancesTo source k strict progress now (Ok (Some body)) progress' new → LoneBody body
+    lone_body : (body : Body) → AdvancesTo source k allowed progress now (Ok (Some body)) progress' new → LoneBody body
     lone_body body advances = elim (lone_found (Ok (Some body)) advances) [
       | inl only ↦ lone_is body only so_far.none_waits
       | inr ended ↦ absurd (let f = ended.0 in cc)
@@ -135,7 +136,7 @@ module _ {R E : Type 0} (source : Reader R E) (k : Kind) where
 
   -- The strings so far are strings that the decoder takes.
   taken_among : {opens : ℕ} {bodies : List (List ℕ)} {opened now : Decoder R}
-      (a : IsAmong source k opens bodies opened now) → AreTakenStrings (strict_of opened) k a.strings bodies
+      (a : IsAmong source k opens bodies opened now) → AreTakenStrings (spelling_of opened) k a.strings bodies
   taken_among a = grind (arith, flat_inside)
 
   part_of : {opens : ℕ} {bodies : List (List ℕ)} {opened now : Decoder R} → IsAmong source k opens bodies opened now
@@ -165,7 +166,7 @@ module _ {R E : Type 0} (source : Reader R E) (k : Kind) where
     no_title {between} error a fails = record { between = between; part = part_of a; fails = fails }
 
     meets_other : {left : ℕ} {between : Decoder R} (at : ℕ) → IsAmong source k left bodies opened between
-        → FindsOther source k (strict_of opened) left between at progress new → MeetsOther source k opened at new
+        → FindsOther source k (spelling_of opened) left between at progress new → MeetsOther source k opened at new
     meets_other at a other = search (part_of, other_inside, some_open, arith)
 
     open_error : (room : ℕ) (error : Error E) → 0 < opened.offset → new.offset < 2 ^ 64
@@ -193,58 +194,58 @@ module _ {R E : Type 0} (source : Reader R E) (k : Kind) where
 
   -- ---- both forms of a string
 
-  pub skips_end : (strict : Bool) (len : Option ℕ) (room : ℕ) (opened now new : Decoder R)
-      (progress progress' : Progress) → strict ≡ strict_of opened → SkipsSoFar len opened progress now
-      → (IsSteady source now → IsSteady source new) → AdvancesTo source k strict progress now (Ok None) progress' new
+  pub skips_end : (allowed : Spelling) (len : Option ℕ) (room : ℕ) (opened now new : Decoder R)
+      (progress progress' : Progress) → allowed ≡ spelling_of opened → SkipsSoFar len opened progress now
+      → (IsSteady source now → IsSteady source new) → AdvancesTo source k allowed progress now (Ok None) progress' new
       → SkipsString source k len room opened (Ok (tt {0})) new
-  skips_end strict None room opened now new progress progress' mode so_far steady advances =
-      open_end so_far.0.0 opened now new progress' (advances_among source k so_far.0.0 opened now strict (Ok None)
+  skips_end allowed None room opened now new progress progress' mode so_far steady advances =
+      open_end so_far.0.0 opened now new progress' (advances_among source k so_far.0.0 opened now allowed (Ok None)
       progress progress' new mode so_far.0.1 advances steady)
-  skips_end strict (Some len) room opened now new progress progress' mode so_far steady advances =
-      lone_end strict len opened now new progress progress' so_far advances
+  skips_end allowed (Some len) room opened now new progress progress' mode so_far steady advances =
+      lone_end allowed len opened now new progress progress' so_far advances
 
-  pub skips_error : (strict : Bool) (len : Option ℕ) (room : ℕ) (opened now new : Decoder R)
-      (progress progress' : Progress) (error : Error E) → new.offset < 2 ^ 64 → strict ≡ strict_of opened
+  pub skips_error : (allowed : Spelling) (len : Option ℕ) (room : ℕ) (opened now new : Decoder R)
+      (progress progress' : Progress) (error : Error E) → new.offset < 2 ^ 64 → allowed ≡ spelling_of opened
       → SkipsSoFar len opened progress now
-      → (IsSteady source now → IsSteady source new) → AdvancesTo source k strict progress now (Err error) progress' new
+      → (IsSteady source now → IsSteady source new) → AdvancesTo source k allowed progress now (Err error) progress' new
       → SkipsString source k len room opened (Err error) new
-  skips_error strict None room opened now new progress progress' error less mode so_far steady advances =
+  skips_error allowed None room opened now new progress progress' error less mode so_far steady advances =
       open_error so_far.0.0 opened now new progress' room error so_far.1 less (advances_among source k so_far.0.0 opened
-      now strict (Err error) progress progress' new mode so_far.0.1 advances steady)
-  skips_error strict (Some len) room opened now new progress progress' error less mode so_far steady advances =
-      absurd (lone_error strict len opened now new progress progress' so_far error advances)
+      now allowed (Err error) progress progress' new mode so_far.0.1 advances steady)
+  skips_error allowed (Some len) room opened now new progress progress' error less mode so_far steady advances =
+      absurd (lone_error allowed len opened now new progress progress' so_far error advances)
 
-  pub skips_body : (strict : Bool) (len : Option ℕ) (room : ℕ) (opened now new ended : Decoder R)
-      (progress progress' : Progress) (body : Body) → strict ≡ strict_of opened → SkipsSoFar len opened progress now
+  pub skips_body : (allowed : Spelling) (len : Option ℕ) (room : ℕ) (opened now new ended : Decoder R)
+      (progress progress' : Progress) (body : Body) → allowed ≡ spelling_of opened → SkipsSoFar len opened progress now
       → (IsSteady source now → IsSteady source new) → (IsSteady source new → IsSteady source ended)
-      → AdvancesTo source k strict progress now (Ok (Some body)) progress' new
+      → AdvancesTo source k allowed progress now (Ok (Some body)) progress' new
       → EndsBody source k [] body.length room body.place new (Ok (tt {0})) ended → SkipsSoFar len opened progress' ended
-  skips_body strict None room opened now new ended progress progress' body mode so_far steady steady' advances reads =
-      let all = advances_among source k so_far.0.0 opened now strict (Ok (Some body)) progress progress' new mode
+  skips_body allowed None room opened now new ended progress progress' body mode so_far steady steady' advances reads =
+      let all = advances_among source k so_far.0.0 opened now allowed (Ok (Some body)) progress progress' new mode
       so_far.0.1 advances steady in
       let more = segment_added source k so_far.0.0 opened now new ended body progress' so_far.0.1.none_waits all reads
       steady' in
       ((_, more), so_far.1)
-  skips_body strict (Some len) room opened now new ended progress progress' body mode so_far steady steady' advances
-      reads = lone_reads strict len opened now new progress progress' so_far body ended
-      (lone_body strict len opened now new progress progress' so_far body advances) reads
+  skips_body allowed (Some len) room opened now new ended progress progress' body mode so_far steady steady' advances
+      reads = lone_reads allowed len opened now new progress progress' so_far body ended
+      (lone_body allowed len opened now new progress progress' so_far body advances) reads
 
-  pub skips_stop : (strict : Bool) (len : Option ℕ) (room : ℕ) (opened now new ended : Decoder R)
-      (progress progress' : Progress) (body : Body) (error : Error E) → strict ≡ strict_of opened
+  pub skips_stop : (allowed : Spelling) (len : Option ℕ) (room : ℕ) (opened now new ended : Decoder R)
+      (progress progress' : Progress) (body : Body) (error : Error E) → allowed ≡ spelling_of opened
       → SkipsSoFar len opened progress now → (IsSteady source now → IsSteady source new)
-      → AdvancesTo source k strict progress now (Ok (Some body)) progress' new
+      → AdvancesTo source k allowed progress now (Ok (Some body)) progress' new
       → EndsBody source k [] body.length room body.place new (Err error) ended
       → SkipsString source k len room opened (Err error) ended
-  skips_stop strict None room opened now new ended progress progress' body error mode so_far steady advances ends =
-      let all = advances_among source k so_far.0.0 opened now strict (Ok (Some body)) progress progress' new mode
+  skips_stop allowed None room opened now new ended progress progress' body error mode so_far steady advances ends =
+      let all = advances_among source k so_far.0.0 opened now allowed (Ok (Some body)) progress progress' new mode
       so_far.0.1 advances steady in
       body_stops room opened error ended (meets_body so_far.0.0 opened now new progress' room body ended error all ends)
-  skips_stop strict (Some len) room opened now new ended progress progress' body error mode so_far steady advances
+  skips_stop allowed (Some len) room opened now new ended progress progress' body error mode so_far steady advances
       ends =
-      let lone = lone_body strict len opened now new progress progress' so_far body advances in
+      let lone = lone_body allowed len opened now new progress progress' so_far body advances in
       ends_behind source k len opened new lone.passed room _ error ended (rw (lone.lengths, lone.place) at ends)
 
   -- The title of a body has at least one byte, so the offset rises.
-  pub found_rises : (strict : Bool) (progress progress' : Progress) (now new : Decoder R) (body : Body)
-      → AdvancesTo source k strict progress now (Ok (Some body)) progress' new → now.offset < new.offset
-  found_rises strict progress progress' now new body all = grind arith
+  pub found_rises : (allowed : Spelling) (progress progress' : Progress) (now new : Decoder R) (body : Body)
+      → AdvancesTo source k allowed progress now (Ok (Some body)) progress' new → now.offset < new.offset
+  found_rises allowed progress progress' now new body all = grind arith

@@ -1,5 +1,5 @@
 -- A title that a decoder read, by the bytes of its parts.
-use Rattle.std.proofs.Common.{IsTrue, [], ◌≡◌, ℕ, ◌+◌, List, ◌∷◌, length, refl, ap, ◌∙◌, inl, inr, arith, append-nil}
+use Rattle.std.proofs.Common.{[], ◌≡◌, ℕ, ◌+◌, List, ◌∷◌, length, refl, ap, ◌∙◌, inl, inr, arith, append-nil}
 use Rattle.std.proofs.Common.{length-append, get_or, ◌*◌, ◌/◌, ◌%◌, ◌++◌, ◌<◌, Option, None, Some, Result, Ok, Err}
 use Rattle.std.proofs.Common.{MatchResult, if◌then◌else◌, ◌&&◌, ◌-◌, ◌^◌}
 use Rattle.std.proofs.lemmas.Bool.Decides.{nat_tests}
@@ -11,9 +11,11 @@ use Rattle.ciborium_ll_decoder.specs.declared.dec.Error.{Error}
 use Rattle.ciborium_ll_decoder.specs.declared.dec.Error.TheVariants as e
 use Rattle.ciborium_ll_decoder.specs.Decoding.{PullsTitle, RefusesTitleWhole, view, failures_of, IsSteady, DecoderPullAnswer}
 use Rattle.ciborium_ll_decoder.specs.Decoding.{ReadsAll, ReadsMinor, HoldsAffix, ReadsAffix, ReadsBytes, RefusesTitle}
-use Rattle.ciborium_ll_decoder.specs.Decoding.{strict_of}
+use Rattle.ciborium_ll_decoder.specs.Decoding.{spelling_of}
 use Rattle.ciborium_ll_text.proofs.Lists.{length_zero}
 use Rattle.ciborium_ll_decoder.proofs.BodyLaws.{view_none}
+use Rattle.ciborium_ll_grammar.specs.Spellings.{is_shortest}
+use Rattle.ciborium_ll_grammar.specs.declared.spelling.Spelling.TheVariants.{Shortest}
 use Rattle.ciborium_ll_grammar.specs.declared.hdr.Minor.{Minor}
 use Rattle.ciborium_ll_grammar.specs.declared.hdr.Minor.TheVariants as m
 use Rattle.ciborium_ll_grammar.specs.declared.hdr.Header.{Header}
@@ -50,7 +52,7 @@ module _ {R E : Type 0} (source : Ghosts R E) where
     pub offset : new.offset ≡ old.offset + length title
     pub none_waits : new.waiting ≡ None
     pub failures : failures_of source new ≡ failures_of source old
-    pub mode : strict_of new ≡ strict_of old
+    pub mode : spelling_of new ≡ spelling_of old
 
   pub title_read : (old between new : Decoder R) (read title : List ℕ) (b : Minor) → old.waiting ≡ None
       → ReadsAll source old read between → ReadsAll source between (minor_affix b) new → title ≡ read ++ minor_affix b
@@ -72,15 +74,15 @@ module _ {R E : Type 0} (source : Ghosts R E) where
 
   -- The decoder read a title that it takes, so `pull` gives the header.
   pub title_pulled : (old new : Decoder R) (title : List ℕ) (header : Header) → IsTitle title header
-      → old.waiting ≡ None → (IsTrue (strict_of old) → IsStrictTitle title header) → TitleRead old title new
+      → old.waiting ≡ None → (spelling_of old ≡ Shortest → IsStrictTitle title header) → TitleRead old title new
       → PullsTitle source old header new
-  title_pulled old new title header is_title none strict read = search arith
+  title_pulled old new title header is_title none allowed read = search arith
 
   -- A strict decoder read a title that is not strict, so it refuses the title.
   pub title_refused : (old new : Decoder R) (title : List ℕ) (header : Header) → IsTitle title header
-      → old.waiting ≡ None → IsTrue (strict_of old) → (IsStrictTitle title header → ⊥) → TitleRead old title new
+      → old.waiting ≡ None → spelling_of old ≡ Shortest → (IsStrictTitle title header → ⊥) → TitleRead old title new
       → RefusesTitleWhole source old old.offset new
-  title_refused old new title header is_title none strict refused read = search
+  title_refused old new title header is_title none allowed refused read = search
 
   -- The byte that was read begins no title, so the decoder refuses it.
   refuses : (old new : Decoder R) (read : List ℕ) → old.waiting ≡ None → length read ≡ 1 → IsRefused (get_or read 0 0)
@@ -144,7 +146,7 @@ module _ {R E : Type 0} (source : Ghosts R E) where
   -- The decoder takes an affix that it read, unless it is strict and refuses the number.
   pub affix_taken : (first : ℕ) (old new : Decoder R) (minor : Minor) (answer : Option Minor)
       → HoldsAffix source first old minor new
-      → answer ≡ (if strict_of new && refused_when_strict (first / 32) minor then None else Some minor)
+      → answer ≡ (if is_shortest (spelling_of new) && refused_when_strict (first / 32) minor then None else Some minor)
       → ReadsMinor source first old (Ok answer) new
   affix_taken first old new minor answer holds is = grind arith
 

@@ -15,7 +15,7 @@ use Rattle.ciborium_ll_decoder.specs.declared.seg.Parser.{Ghosts as Parser}
 use Rattle.ciborium_ll_decoder.specs.declared.seg.Segments.{Segments}
 use Rattle.ciborium_ll_decoder.specs.Decoding.{MovesOn, ReadsPast}
 use Rattle.ciborium_ll_decoder.specs.Finishing.{ReadsRest, StopsRest}
-use Rattle.ciborium_ll_decoder.specs.Segments.{progress_of, string_decoder, string_reference, string_strict}
+use Rattle.ciborium_ll_decoder.specs.Segments.{progress_of, string_decoder, string_reference, string_spelling}
 
 -- The decoder that a copy reads from, and the writer that it writes to: for example, a decoder over `61 62` and a
 -- writer with room for 2 bytes.
@@ -77,6 +77,6 @@ module _ {R E W F P : Type 0} {parser : Parser P} (source : Reader R E) (sink : 
         result (sides (string_decoder new) writer')
     pub same_reference : string_reference new ≡ string_reference old
     pub progress : progress_of new ≡ progress_of old
-    pub mode : string_strict new ≡ string_strict old
+    pub mode : string_spelling new ≡ string_spelling old
     pub moves_on : MovesOn source (string_decoder old) (string_decoder new)
     pub target : sink.target writer' ≡ sink.target writer

@@ -1,5 +1,5 @@
 -- The calls on a segment, which gives its body chunk by chunk.
-use Rattle.std.specs.Prelude.{◌≡◌, ℕ, ◌+◌, ◌-◌, ◌<◌, ◌≤◌, ◌⊎◌, min, Bool, true, false, List, [], ◌++◌, length, take}
+use Rattle.std.specs.Prelude.{◌≡◌, ℕ, ◌+◌, ◌-◌, ◌<◌, ◌≤◌, ◌⊎◌, min, true, false, List, [], ◌++◌, length, take}
 use Rattle.std.specs.Prelude.{Option, Some, None, Result, Ok, Err, IfOk, IfSome}
 use Rattle.std.specs.Borrow.{Bor, GName}
 use Rattle.std.specs.Io.KnownBytes.{Consumes, prepend_known}
@@ -12,6 +12,7 @@ use Rattle.ciborium_ll_decoder.specs.declared.seg.Body.{Body}
 use Rattle.ciborium_ll_decoder.specs.declared.seg.Parser.{Ghosts as Parser}
 use Rattle.ciborium_ll_decoder.specs.declared.seg.Progress.{Progress}
 use Rattle.ciborium_ll_decoder.specs.declared.seg.Segment.{Segment}
+use Rattle.ciborium_ll_grammar.specs.declared.spelling.Spelling.{Spelling}
 use Rattle.ciborium_ll_grammar.specs.Strings.{Kind, Bytes, Text}
 use Rattle.ciborium_ll_text.specs.Text.{IsFront}
 use Rattle.ciborium_ll_decoder.specs.Decoding.{offset_limit, MovesOn, ReadsAll, ReadFails, IsUntouched, offset_of}
@@ -180,26 +181,26 @@ module _ {R E P : Type 0} {parser : Parser P} (source : Ghosts R E) where
     pub same_reference : segment_reference new ≡ segment_reference old
     pub moves_on : MovesOn source (segment_decoder old) (segment_decoder new)
 
-module _ {R E : Type 0} (source : Ghosts R E) (kind : Kind) (strict : Bool) where
+module _ {R E : Type 0} (source : Ghosts R E) (kind : Kind) (allowed : Spelling) where
   -- `advance` gave this answer and left this decoder. The offset rose by at least one for each further open. Over
   -- `5f 41` it rose by 2, for one open.
   pub record GoesOnTo (progress : Progress) (old : Decoder R) (result : Result (Option Body) (Error E))
       (new : Decoder R) : Type 0 where
     pub after : Progress
-    pub advanced : AdvancesTo source kind strict progress old result after new
+    pub advanced : AdvancesTo source kind allowed progress old result after new
     pub opens : opens_of after + offset_of old ≤ opens_of progress + offset_of new
     pub moves_on : MovesOn source old new
 
-module _ {R E P : Type 0} {parser : Parser P} (source : Ghosts R E) (kind : Kind) (strict : Bool) where
+module _ {R E P : Type 0} {parser : Parser P} (source : Ghosts R E) (kind : Kind) (allowed : Spelling) where
   -- The segment is whole, and holds the decoder as `advance` left it: after `42`, with 2 bytes unread.
   pub record LendsWhole (progress : Progress) (old : Decoder R) (segment : Segment R P parser) : Type 0 where
     pub body : Body
-    pub goes_on : GoesOnTo source kind strict progress old (Ok (Some body)) segment.decoder.now
+    pub goes_on : GoesOnTo source kind allowed progress old (Ok (Some body)) segment.decoder.now
     pub whole : IsWhole body segment
 
   -- `pull` of a string answers as `advance` does, with a whole segment in place of a body: over `42`, with one of 2
   -- bytes.
   abbrev pub SegmentsPull : Progress → Decoder R → Result (Option (Segment R P parser)) (Error E) → Type 0
   SegmentsPull progress old (Ok (Some segment)) = LendsWhole progress old segment
-  SegmentsPull progress old (Ok None) = (new : Decoder R) × GoesOnTo source kind strict progress old (Ok None) new
-  SegmentsPull progress old (Err error) = (new : Decoder R) × GoesOnTo source kind strict progress old (Err error) new
+  SegmentsPull progress old (Ok None) = (new : Decoder R) × GoesOnTo source kind allowed progress old (Ok None) new
+  SegmentsPull progress old (Err error) = (new : Decoder R) × GoesOnTo source kind allowed progress old (Err error) new

@@ -2,7 +2,7 @@
 --
 -- A relation speaks of bytes if the reader tells them: `Consumes` says nothing about bytes that are not told. All the
 -- rest holds over any reader.
-use Rattle.std.specs.Prelude.{◌≡◌, ℕ, ◌+◌, ◌<◌, ◌≤◌, ◌^◌, List, [], ◌∷◌, ◌++◌, length, take, Bool, true, false}
+use Rattle.std.specs.Prelude.{◌≡◌, ℕ, ◌+◌, ◌<◌, ◌≤◌, ◌^◌, List, [], ◌∷◌, ◌++◌, length, take, true, false}
 use Rattle.std.specs.Prelude.{Option, Some, None, Result, Ok, Err, ◌⊎◌, IfSome, IsSome, IsTrue, ◌%◌, ◌/◌, ◌-◌}
 use Rattle.std.specs.Prelude.{IfOk, IsErrOf, MatchResult}
 use Rattle.std.specs.Io.KnownBytes.{Consumes, prepend_known}
@@ -17,7 +17,8 @@ use Rattle.ciborium_ll_grammar.specs.Title.{IsTitle, IsStrictTitle, IsRefused, I
 use Rattle.ciborium_ll_grammar.specs.Title.{shortest_title, title_len}
 use Rattle.ciborium_ll_grammar.specs.Parts.{IsMinor, IsParts, refused_when_strict, minor_code, minor_affix}
 use Rattle.ciborium_ll_grammar.specs.Parts.{title_bytes}
-use Rattle.ciborium_ll_grammar.specs.Spellings.{is_shortest}
+use Rattle.ciborium_ll_grammar.specs.declared.spelling.Spelling.{Spelling}
+use Rattle.ciborium_ll_grammar.specs.declared.spelling.Spelling.TheVariants.{Any, Shortest}
 
 -- Every offset is below this number, so it is at most 2^64 - 1, which is `usize::MAX`.
 abbrev pub offset_limit : ℕ
@@ -56,13 +57,13 @@ module _ {R : Type 0} where
   IsWaiting d = IsSome d.waiting
 
   -- Whether the decoder takes strict titles alone: `01`, but not `18 01`.
-  abbrev pub strict_of : Decoder R → Bool
-  strict_of d = is_shortest d.spelling
+  abbrev pub spelling_of : Decoder R → Spelling
+  spelling_of d = d.spelling
 
   -- `Holds` is true if the decoder is strict and no header waits. If the header of `82` waits, nothing is said of
   -- `Holds`.
   abbrev pub Strictly : Decoder R → Type 0 → Type 0
-  Strictly d Holds = IsTrue (strict_of d) → d.waiting ≡ None → Holds
+  Strictly d Holds = spelling_of d ≡ Shortest → d.waiting ≡ None → Holds
 
   -- How many reads the decoder refused by itself: 1 after a `read_exact` while a header waited.
   abbrev pub refusals_of : Decoder R → ℕ
@@ -74,11 +75,11 @@ module _ {R : Type 0} where
     pub reader : new.reader ≡ old.reader
     pub offset : new.offset ≡ old.offset
     pub waiting : new.waiting ≡ old.waiting
-    pub mode : strict_of new ≡ strict_of old
+    pub mode : spelling_of new ≡ spelling_of old
 
   -- The decoder is strict or not, as given, and nothing was pulled yet. If the start is 5, its offset is 5.
-  pub record IsFreshAs (strict : Bool) (r : R) (start : ℕ) (d : Decoder R) : Type 0 where
-    pub mode : strict_of d ≡ strict
+  pub record IsFreshAs (allowed : Spelling) (r : R) (start : ℕ) (d : Decoder R) : Type 0 where
+    pub mode : spelling_of d ≡ allowed
     pub reader : d.reader ≡ r
     pub offset : d.offset ≡ start
     pub none_waits : d.waiting ≡ None
@@ -86,7 +87,7 @@ module _ {R : Type 0} where
 
   -- Nothing was pulled yet, and the decoder isn't strict: it takes `18 01`, too.
   abbrev pub IsFresh : R → ℕ → Decoder R → Type 0
-  IsFresh r start d = IsFreshAs false r start d
+  IsFresh r start d = IsFreshAs Any r start d
 
 module _ {E : Type 0} where
   -- A decoder refuses a read by `Waiting` and `TooLong`. It counts these errors, and no others. After 2 refusals,
@@ -125,7 +126,7 @@ module _ {R E : Type 0} (source : Ghosts R E) where
   -- decoder refused nothing by itself, and its offset never falls. From the offset 3 it may lead to 5, and not to 2.
   pub record MovesOn (old new : Decoder R) : Type 0 where
     pub steady : IsSteady old → IsSteady new
-    pub mode : strict_of new ≡ strict_of old
+    pub mode : spelling_of new ≡ spelling_of old
     pub refusals : refusals_of new ≡ refusals_of old
     pub rises : offset_of old ≤ offset_of new
 
@@ -143,9 +144,9 @@ module _ {R E : Type 0} (source : Ghosts R E) where
     -- The call gave a header that waited, and read nothing.
     pub waited : IfSome old.waiting (λ kept. (kept ≡ header) × (title ≡ shortest_title header)
         × (new.reader ≡ old.reader))
-    pub mode : strict_of new ≡ strict_of old
+    pub mode : spelling_of new ≡ spelling_of old
     -- A strict decoder takes a strict title alone. It gives a header that waited as it was pushed.
-    pub strict : IsTrue (strict_of old) → old.waiting ≡ None → IsStrictTitle title header
+    pub strict : spelling_of old ≡ Shortest → old.waiting ≡ None → IsStrictTitle title header
 
   -- `pull` refused a first byte, for example `1c`, and consumed it. The place is the offset of the title's start.
   pub record RefusesTitle (old : Decoder R) (at : ℕ) (new : Decoder R) : Type 0 where
@@ -160,7 +161,7 @@ module _ {R E : Type 0} (source : Ghosts R E) where
 
   -- A strict decoder refused a whole title, for example `18 05`, and consumed it. The place is the offset of its start.
   pub record RefusesTitleWhole (old : Decoder R) (at : ℕ) (new : Decoder R) : Type 0 where
-    pub strict : IsTrue (strict_of old)
+    pub strict : spelling_of old ≡ Shortest
     pub header : Header
     pub title : List ℕ
     pub is_title : IsTitle title header
@@ -235,7 +236,7 @@ module _ {R E : Type 0} (source : Ghosts R E) where
     pub waited : IfSome old.waiting (λ header. (new ≡ old) ⊎ Begins (shortest_title header) bytes)
     pub failures : failures_of new ≡ failures_of old
     pub steady : IsSteady old → IsSteady new
-    pub mode : strict_of new ≡ strict_of old
+    pub mode : spelling_of new ≡ spelling_of old
 
   -- ---- push
 
@@ -246,7 +247,7 @@ module _ {R E : Type 0} (source : Ghosts R E) where
     pub due : view new ≡ prepend_known (shortest_title header) (view old)
     pub offset : new.offset + title_len header ≡ old.offset
     pub reader : new.reader ≡ old.reader
-    pub mode : strict_of new ≡ strict_of old
+    pub mode : spelling_of new ≡ spelling_of old
     pub refusals : refusals_of new ≡ refusals_of old
 
   -- ---- pull, push of what it gave, and pull again
@@ -284,7 +285,7 @@ module _ {R E : Type 0} (source : Ghosts R E) where
     pub none_waited : old.waiting ≡ None
     pub none_waits : new.waiting ≡ None
     pub failures : failures_of new ≡ failures_of old
-    pub mode : strict_of new ≡ strict_of old
+    pub mode : spelling_of new ≡ spelling_of old
 
   -- The reader failed: at a read of 3 bytes, for example, if it has only `01 02`.
   pub record ReadFails (old : Decoder R) (count : ℕ) (new : Decoder R) : Type 0 where
@@ -313,7 +314,7 @@ module _ {R E : Type 0} (source : Ghosts R E) where
       Type 0 where
     pub read : ReadsBytes old result bytes new
     pub steady : IsSteady old → IsSteady new
-    pub mode : strict_of new ≡ strict_of old
+    pub mode : spelling_of new ≡ spelling_of old
     pub refusals : MatchResult result (λ done. refusals_of new ≡ refusals_of old)
         (λ error. CountsRefusal error (refusals_of old) (refusals_of new))
 
@@ -329,13 +330,13 @@ module _ {R E : Type 0} (source : Ghosts R E) where
   -- The decoder read the affix. If the decoder is strict, it takes the number: after `18` it takes 24, but not 23.
   pub record ReadsAffix (first : ℕ) (old : Decoder R) (read : Minor) (new : Decoder R) : Type 0 where
     pub holds : HoldsAffix first old read new
-    pub taken : IsTrue (strict_of old) → refused_when_strict (first / 32) read ≡ false
+    pub taken : spelling_of old ≡ Shortest → refused_when_strict (first / 32) read ≡ false
 
   -- The decoder read the affix, is strict, and refused its number. After the first byte `18` it refuses the affix `05`.
   pub record RefusesAffix (first : ℕ) (old new : Decoder R) : Type 0 where
     pub read : Minor
     pub holds : HoldsAffix first old read new
-    pub strict : IsTrue (strict_of old)
+    pub strict : spelling_of old ≡ Shortest
     pub longer : refused_when_strict (first / 32) read ≡ true
 
   -- The read of an affix, by its answer. After `19` and over `01 00` it gives `Two 256`.

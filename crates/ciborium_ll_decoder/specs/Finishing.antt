@@ -14,7 +14,7 @@ use Rattle.ciborium_ll_grammar.specs.Strings.{Kind, Text, IsWritable, kind_heade
 use Rattle.ciborium_ll_text.specs.Text.{IsCharacters, IsStuck, BeginsNoText}
 use Rattle.ciborium_ll_decoder.specs.Kept.{kept_bytes}
 use Rattle.ciborium_ll_decoder.specs.Decoding.{offset_limit, MovesOn, ReadsPast, ReadFails, IsUntouched}
-use Rattle.ciborium_ll_decoder.specs.Segments.{progress_of, string_decoder, string_reference, string_strict}
+use Rattle.ciborium_ll_decoder.specs.Segments.{progress_of, string_decoder, string_reference, string_spelling}
 
 -- The bytes `kept` were kept, `unread` bytes were unread, and the bytes `read` are those that were read since. Kept and
 -- read bytes together are no text, as the whole body or however it goes on. If `c3` was kept and one byte was unread,
@@ -114,7 +114,7 @@ module _ {R E P : Type 0} {parser : Parser P} (source : Ghosts R E) where
         (string_decoder new)
     pub same_reference : string_reference new ≡ string_reference old
     pub progress : progress_of new ≡ progress_of old
-    pub mode : string_strict new ≡ string_strict old
+    pub mode : string_spelling new ≡ string_spelling old
     pub moves_on : MovesOn source (string_decoder old) (string_decoder new)
 
 module _ {R E : Type 0} (source : Ghosts R E) (kind : Kind) where

@@ -15,7 +15,7 @@ use Rattle.ciborium_ll_decoder.specs.contracts.seg.Segments as segments
 use Rattle.ciborium_ll_decoder.specs.Decoding.{MovesOn, offset_of}
 use Rattle.ciborium_ll_grammar.specs.Strings.{Kind}
 use Rattle.ciborium_ll_decoder.specs.Progress.{opens_of}
-use Rattle.ciborium_ll_decoder.specs.Segments.{AdvancesTo, string_strict}
+use Rattle.ciborium_ll_decoder.specs.Segments.{AdvancesTo, string_spelling}
 
 -- The string with this decoder under its reference, and otherwise as it was. With a decoder at offset 3, the string has
 -- its decoder at offset 3.
@@ -28,9 +28,9 @@ module _ {R E P : Type 0} {parser : Parser P} (source : Ghosts R E) (kind : Kind
   pub record SegmentsAdvance (old : Segments R P parser) (result : Result (Option Body) (Error E))
       (new : Segments R P parser) : Type 0 where
     pub same_reference : new.decoder.ghost_name ≡ old.decoder.ghost_name
-    pub advances : AdvancesTo source kind (string_strict old) old.progress old.decoder.now result new.progress
+    pub advances : AdvancesTo source kind (string_spelling old) old.progress old.decoder.now result new.progress
         new.decoder.now
-    pub mode : string_strict new ≡ string_strict old
+    pub mode : string_spelling new ≡ string_spelling old
     pub opens : opens_of new.progress + offset_of old.decoder.now ≤ opens_of old.progress + offset_of new.decoder.now
     pub moves_on : MovesOn source old.decoder.now new.decoder.now
 

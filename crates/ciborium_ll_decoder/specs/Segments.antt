@@ -1,11 +1,12 @@
 -- The calls on strings, which lend a decoder piece by piece.
-use Rattle.std.specs.Prelude.{◌≡◌, ℕ, ◌≤◌, Bool, IsTrue, suc, ◌+◌, ◌-◌, ◌<◌, ◌^◌, ◌⊎◌, true, List, [], ◌++◌, length}
+use Rattle.std.specs.Prelude.{◌≡◌, ℕ, ◌≤◌, suc, ◌+◌, ◌-◌, ◌<◌, ◌^◌, ◌⊎◌, List, [], ◌++◌, length}
 use Rattle.std.specs.Prelude.{Option, Some, None, Result, Ok, Err}
 use Rattle.std.specs.Borrow.{GName}
 use Rattle.ciborium_ll_io.specs.declared.io.Read.{Ghosts}
 use Rattle.ciborium_ll_grammar.specs.declared.hdr.Header.{Header}
 use Rattle.ciborium_ll_grammar.specs.declared.hdr.Header.TheVariants as h
-use Rattle.ciborium_ll_grammar.specs.Spellings.{is_shortest}
+use Rattle.ciborium_ll_grammar.specs.declared.spelling.Spelling.{Spelling}
+use Rattle.ciborium_ll_grammar.specs.declared.spelling.Spelling.TheVariants.{Shortest}
 use Rattle.ciborium_ll_decoder.specs.declared.dec.Decoder.{Decoder}
 use Rattle.ciborium_ll_decoder.specs.declared.dec.Error.{Error}
 use Rattle.ciborium_ll_decoder.specs.declared.dec.Error.TheVariants as e
@@ -16,7 +17,7 @@ use Rattle.ciborium_ll_decoder.specs.declared.seg.Segments.{Segments}
 use Rattle.ciborium_ll_decoder.specs.declared.seg.Progress.TheVariants as p
 use Rattle.ciborium_ll_grammar.specs.Title.{IsTitle}
 use Rattle.ciborium_ll_grammar.specs.Strings.{Kind, kind_header, IsMisplaced}
-use Rattle.ciborium_ll_decoder.specs.Decoding.{ReadsPast, DecoderPullAnswer, PullsTitle, TakesBack, strict_of}
+use Rattle.ciborium_ll_decoder.specs.Decoding.{ReadsPast, DecoderPullAnswer, PullsTitle, TakesBack, spelling_of}
 
 -- ---- what a string is to its callers
 
@@ -34,8 +35,8 @@ module _ {R P : Type 0} {parser : Parser P} where
   progress_of s = s.progress
 
   -- Whether the string is strict. A strict string takes no open within an open: it refuses the second title of `7f 7f`.
-  abbrev pub string_strict : Segments R P parser → Bool
-  string_strict s = is_shortest s.spelling
+  abbrev pub string_spelling : Segments R P parser → Spelling
+  string_spelling s = s.spelling
 
   -- None of the string's titles was read. Over `5f 41 01 ff` the title `5f` is due, and the progress is `Open(0)`.
   abbrev pub IsAtBeginning : Segments R P parser → Type 0
@@ -49,7 +50,7 @@ module _ {R E P : Type 0} {parser : Parser P} (source : Ghosts R E) where
       Type 0 where
     pub back : TakesBack source old header (string_decoder string)
     pub fresh : IsAtBeginning string
-    pub mode : string_strict string ≡ strict_of old
+    pub mode : string_spelling string ≡ spelling_of old
     pub same_reference : string_reference string ≡ reference
 
 -- ---- opens and breaks in a row
@@ -73,9 +74,9 @@ IsMisplacedAt kind opens header = ((opens ≡ 0) × (header ≡ h.Break)) ⊎ Is
 
 -- A string refuses this header there. A strict string refuses a further open, too (RFC 7049, 2.2.2): the second byte of
 -- `5f 5f`.
-abbrev pub IsRefusedAt : Bool → Kind → ℕ → Header → Type 0
-IsRefusedAt strict kind opens header =
-    IsMisplacedAt kind opens header ⊎ ((0 < opens) × (strict ≡ true) × (header ≡ kind_header kind None))
+abbrev pub IsRefusedAt : Spelling → Kind → ℕ → Header → Type 0
+IsRefusedAt allowed kind opens header =
+    IsMisplacedAt kind opens header ⊎ ((0 < opens) × (allowed ≡ Shortest) × (header ≡ kind_header kind None))
 
 module _ {A E : Type 0} where
   -- The string gives an answer that stays again: it has ended, it is damaged, or it is nested too deep. After damage at
@@ -122,11 +123,11 @@ module _ {R E : Type 0} (source : Ghosts R E) (kind : Kind) where
     pub inner : 1 < opens
     pub after : progress ≡ p.Open (opens - 1)
 
-module _ {R E : Type 0} (source : Ghosts R E) (kind : Kind) (strict : Bool) where
+module _ {R E : Type 0} (source : Ghosts R E) (kind : Kind) (allowed : Spelling) where
   -- A header that may not stand there damages the string at the place of its title (RFC 7049, 2.2.2). In `5f 01` this
   -- is `01`.
   pub record FindsOther (opens : ℕ) (old : Decoder R) (at : ℕ) (progress : Progress) (new : Decoder R) : Type 0 where
-    pub other : PullsOther source (IsRefusedAt strict kind opens) old at new
+    pub other : PullsOther source (IsRefusedAt allowed kind opens) old at new
     pub after : progress ≡ p.Damaged at
 
   -- The titles of a string lead to this answer, inside `opens` opens. Inside one open `41` leads to a body of 1 byte.
@@ -148,7 +149,7 @@ module _ {R E : Type 0} (source : Ghosts R E) (kind : Kind) (strict : Bool) wher
     pub pulled : PullsTitle source old (kind_header kind None) new
     pub after : progress ≡ p.Open (opens + 1)
     -- A strict string takes the first open alone.
-    pub level : IsTrue strict → opens ≡ 0
+    pub level : allowed ≡ Shortest → opens ≡ 0
 
   -- One title of a string, as the loop takes it (RFC 7049, 2.2.2). The title `5f` may lead from 0 opens to 1.
   abbrev pub StepsOver : ℕ → Decoder R → Result (Option Body) (Error E) → Progress → Decoder R → Type 0
@@ -167,7 +168,7 @@ module _ {R E : Type 0} (source : Ghosts R E) (kind : Kind) (strict : Bool) wher
     pub between : Decoder R
     pub passed : ReadsPast source old nest between
     -- In a strict string only the first open leads on.
-    pub shallow : IsTrue strict → opens + length nest ≤ 1
+    pub shallow : allowed ≡ Shortest → opens + length nest ≤ 1
     pub ends : EndsAdvance left between result progress new
 
   -- `advance` from a progress. If titles are due, they lead on. Otherwise the string gives an answer that stays again,

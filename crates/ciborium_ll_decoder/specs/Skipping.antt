@@ -1,25 +1,26 @@
 -- `skip_bytes` and `skip_text` read a string to its end, after its header. The old decoder is after that header. The
 -- bytes of the string are those of the header's shortest title, and then those that are consumed.
-use Rattle.std.specs.Prelude.{◌≡◌, ℕ, ◌-◌, ◌⊎◌, Bool, List, [], ◌∷◌, ◌++◌, Option, Some, None, Result, Ok, Err}
+use Rattle.std.specs.Prelude.{◌≡◌, ℕ, ◌-◌, ◌⊎◌, List, [], ◌∷◌, ◌++◌, Option, Some, None, Result, Ok, Err}
 use Rattle.ciborium_ll_io.specs.declared.io.Read.{Ghosts}
 use Rattle.ciborium_ll_decoder.specs.declared.dec.Decoder.{Decoder}
 use Rattle.ciborium_ll_decoder.specs.declared.dec.Error.{Error}
 use Rattle.ciborium_ll_decoder.specs.declared.dec.Error.TheVariants as e
+use Rattle.ciborium_ll_grammar.specs.declared.spelling.Spelling.{Spelling}
 use Rattle.ciborium_ll_grammar.specs.Title.{shortest_title, title_len}
 use Rattle.ciborium_ll_grammar.specs.Strings.{Kind, kind_header, IsString}
 use Rattle.ciborium_ll_grammar.specs.Elements.{AreWritable}
 use Rattle.ciborium_ll_grammar.specs.Faults.{IsInside, IsRefusedIn}
 use Rattle.ciborium_ll_grammar.specs.Items.{AreTakenStrings}
-use Rattle.ciborium_ll_decoder.specs.Decoding.{IsSteady, MovesOn, ReadsPast, DecoderPullAnswer, PullsTitle, strict_of}
+use Rattle.ciborium_ll_decoder.specs.Decoding.{IsSteady, MovesOn, ReadsPast, DecoderPullAnswer, PullsTitle, spelling_of}
 use Rattle.ciborium_ll_decoder.specs.Finishing.{EndsBody}
 use Rattle.ciborium_ll_decoder.specs.Segments.{PullsOther}
 
 -- After an open these strings stand, and then its break. If only the shortest spelling is taken, the strings have a
 -- definite length, each under a strict title (RFC 7049, 2.2.2 and 3.9). After `5f` these may be `42 01 02 ff`.
-abbrev pub IsTakenBehind : Bool → Kind → Option ℕ → List ℕ → List (List ℕ) → Type 0
-IsTakenBehind strict kind (Some len) behind bodies = Unit {0}
-IsTakenBehind strict kind None behind bodies =
-    (strings : List ℕ) × (behind ≡ strings ++ 0xff ∷ []) × AreTakenStrings strict kind strings bodies
+abbrev pub IsTakenBehind : Spelling → Kind → Option ℕ → List ℕ → List (List ℕ) → Type 0
+IsTakenBehind allowed kind (Some len) behind bodies = Unit {0}
+IsTakenBehind allowed kind None behind bodies =
+    (strings : List ℕ) × (behind ≡ strings ++ 0xff ∷ []) × AreTakenStrings allowed kind strings bodies
 
 module _ {R E : Type 0} (source : Ghosts R E) (kind : Kind) where
   -- The decoder read all of the string: the bytes after its header make one string, and its bodies are sound. A strict
@@ -28,7 +29,7 @@ module _ {R E : Type 0} (source : Ghosts R E) (kind : Kind) where
     pub behind : List ℕ
     pub bodies : List (List ℕ)
     pub is_string : IsString kind (shortest_title (kind_header kind len) ++ behind) bodies
-    pub taken : IsTakenBehind (strict_of old) kind len behind bodies
+    pub taken : IsTakenBehind (spelling_of old) kind len behind bodies
     pub sound : AreWritable kind bodies
     pub passed : ReadsPast source old behind new
 
@@ -39,7 +40,7 @@ module _ {R E : Type 0} (source : Ghosts R E) (kind : Kind) where
     pub behind : List ℕ
     pub bodies : List (List ℕ)
     pub inside : IsInside kind (shortest_title (kind_header kind None) ++ behind) bodies
-    pub taken : AreTakenStrings (strict_of old) kind behind bodies
+    pub taken : AreTakenStrings (spelling_of old) kind behind bodies
     pub sound : AreWritable kind bodies
     pub passed : ReadsPast source old behind between
 
@@ -54,7 +55,7 @@ module _ {R E : Type 0} (source : Ghosts R E) (kind : Kind) where
   pub record MeetsOther (old : Decoder R) (at : ℕ) (new : Decoder R) : Type 0 where
     pub between : Decoder R
     pub part : SkipsInside old between
-    pub other : PullsOther source (IsRefusedIn (strict_of between) kind) between at new
+    pub other : PullsOther source (IsRefusedIn (spelling_of between) kind) between at new
 
   -- After that beginning the title of a segment came, and the read of its body failed. The body's place is the offset
   -- of that title (RFC 7049, 2.2.2). In `5f 42 01` from offset 0 on, this place is 1.

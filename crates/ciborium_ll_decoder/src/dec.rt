@@ -1,5 +1,6 @@
 //! The decoder.
 
+ghost use Rattle.ciborium_ll_grammar.specs.declared.spelling.Spelling.TheVariants.{Shortest};
 ghost use Rattle.std.specs.Prelude.{◌≡◌, ◌+◌, ◌≤◌, ◌<◌, ◌^◌};
 ghost use Rattle.ciborium_ll_grammar.specs.Title.{waiting_len};
 
@@ -70,7 +71,7 @@ impl<R: Read> Decoder<R> {
     ghost use Rattle.ciborium_ll_decoder.specs.Decoding.{HoldsAffix, IsFresh, IsFreshAs, IsWaiting, MovesOn};
     ghost use Rattle.ciborium_ll_decoder.specs.Decoding.{DecoderPull, DecoderPullAnswer, PullsTitle, ReadsAll, ReadsBytes};
     ghost use Rattle.ciborium_ll_decoder.specs.Decoding.{ReadsMinor, TakesBack, offset_of};
-    ghost use Rattle.ciborium_ll_decoder.specs.Decoding.{reader_of, refusals_of, strict_of, waiting_of};
+    ghost use Rattle.ciborium_ll_decoder.specs.Decoding.{reader_of, refusals_of, spelling_of, waiting_of};
 
     /// Makes a decoder that counts from this offset, in bytes, and isn't strict.
     pub fn with_offset(reader: R, offset: usize) -> Decoder<R>
@@ -87,7 +88,7 @@ impl<R: Read> Decoder<R> {
     /// [`Decoder::pull`] consumes any other title, and answers `Syntax` with the offset of its start. A string does so
     /// for an open within an open. A header that was pushed back is given as it is.
     pub fn strict(reader: R) -> Decoder<R>
-        ensures { IsFreshAs true reader 0 result }
+        ensures { IsFreshAs Shortest reader 0 result }
     {
         Decoder::with_spelling(reader, Spelling::Shortest, 0)
     }
@@ -96,7 +97,7 @@ impl<R: Read> Decoder<R> {
     ///
     /// With `Shortest` it is that of [`Decoder::strict`]: at the offset 100 it answers `Syntax(100)` for `18 01`.
     pub fn with_spelling(reader: R, spelling: Spelling, offset: usize) -> Decoder<R>
-        ensures { IsFreshAs (is_shortest spelling) reader offset result }
+        ensures { IsFreshAs spelling reader offset result }
     {
         Decoder {
             reader,
@@ -131,7 +132,7 @@ impl<R: Read> Decoder<R> {
 
     /// Returns `Shortest` if the decoder is strict, and otherwise `Any`.
     pub fn spelling(&self) -> Spelling
-        ensures { is_shortest result ≡ strict_of self.now }
+        ensures { result ≡ spelling_of self.now }
     {
         self.spelling
     }
@@ -338,7 +339,8 @@ impl<R: Read> Decoder<R> {
     /// Returns the minor, or `None` if a strict decoder refuses it after the first byte.
     #[inline(always)]
     fn taken(&self, minor: Minor, first: u8) -> Option<Minor>
-        ensures taken { result ≡ (if strict_of self.now && refused_when_strict (first / 32) minor then None else Some minor) }
+        ensures taken { result ≡ (if is_shortest (spelling_of self.now) && refused_when_strict (first / 32) minor
+            then None else Some minor) }
     {
         if self.spelling.is_shortest() && minor.is_refused_when_strict(first / 32) {
             None

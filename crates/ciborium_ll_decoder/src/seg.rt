@@ -4,8 +4,8 @@ ghost use Rattle.std.specs.Prelude.{◌≡◌, ◌≤◌, ◌<◌, ◌+◌, ◌^
 ghost use Rattle.std.specs.Prelude.{None, Some, IsTrue};
 ghost use Rattle.ciborium_ll_text.specs.States.{after};
 ghost use Rattle.ciborium_ll_text.specs.declared.state.State.TheVariants.{Between};
+ghost use Rattle.ciborium_ll_grammar.specs.declared.spelling.Spelling.TheVariants.{Shortest};
 ghost use Rattle.ciborium_ll_grammar.specs.declared.hdr.Header.TheVariants.{Break};
-ghost use Rattle.ciborium_ll_grammar.specs.Spellings.{is_shortest};
 ghost use Rattle.ciborium_ll_grammar.specs.Strings.{Kind, kind_header, Bytes as byte_strings, IsMisplaced};
 ghost use Rattle.ciborium_ll_decoder.specs.Kept.{kept_bytes};
 ghost use Rattle.ciborium_ll_decoder.specs.Progress.{opens_of};
@@ -109,17 +109,18 @@ pub struct Segments<'r, R, P: Parser> {
     progress: Progress,
     spelling: Spelling,
     parser: PhantomData<P>,
-    ghost shallow: { IsTrue (is_shortest spelling) → opens_of progress ≤ 1 },
+    ghost shallow: { spelling ≡ Shortest → opens_of progress ≤ 1 },
 }
 
 impl<'r, R: Read, P: Parser> Segments<'r, R, P> {
     ghost use Rattle.std.specs.Prelude.{OnOk};
     ghost use Rattle.ciborium_ll_decoder.specs.declared.seg.Progress.TheVariants.{Open};
     ghost use Rattle.ciborium_ll_decoder.specs.declared.dec.Decoder.{Decoder as AnyDecoder};
-    ghost use Rattle.ciborium_ll_decoder.specs.Decoding.{MovesOn, PullsTitle, offset_of, strict_of, waiting_of};
+    ghost use Rattle.ciborium_ll_decoder.specs.Decoding.{MovesOn, PullsTitle, offset_of, spelling_of, waiting_of};
     ghost use Rattle.std.specs.Borrow.{sem};
     ghost use Rattle.ciborium_ll_decoder.specs.Segments.{GivesAgain, IsAtBeginning, StepsOver};
-    ghost use Rattle.ciborium_ll_decoder.specs.Segments.{progress_of, string_decoder, string_reference, string_strict};
+    ghost use Rattle.ciborium_ll_decoder.specs.Segments.{progress_of, string_decoder, string_reference};
+    ghost use Rattle.ciborium_ll_decoder.specs.Segments.{string_spelling};
     ghost use Rattle.ciborium_ll_decoder.specs.Chunks.{IsWhole, SegmentsPull, segment_decoder};
     ghost use Rattle.ciborium_ll_decoder.specs.Lend.{SegmentsAdvance, lends_segment, pulls_segment};
 
@@ -127,7 +128,7 @@ impl<'r, R: Read, P: Parser> Segments<'r, R, P> {
     pub(crate) fn new(decoder: &'r mut Decoder<R>) -> Segments<'r, R, P>
         ensures lent { string_decoder result ≡ decoder.old }
         ensures fresh { IsAtBeginning result }
-        ensures mode { string_strict result ≡ strict_of decoder.old }
+        ensures mode { string_spelling result ≡ spelling_of decoder.old }
         ensures same_reference { string_reference result ≡ decoder.entry.ghost_name }
     {
         let spelling = decoder.spelling();
@@ -202,7 +203,7 @@ impl<'r, R: Read, P: Parser> Segments<'r, R, P> {
     /// ```
     pub fn pull(&mut self) -> Result<Option<Segment<'_, R, P>>, Error<R::Error>>
         ensures* lends { sem 𝓛 (pulls_segment R.row P.row R.Read self.entry result) }
-        ensures pulls { SegmentsPull R.Read P.kind (string_strict self.old) (progress_of self.old)
+        ensures pulls { SegmentsPull R.Read P.kind (string_spelling self.old) (progress_of self.old)
             (string_decoder self.old) result }
         ensures stays { GivesAgain (progress_of self.old) result }
     {
@@ -217,12 +218,12 @@ impl<'r, R: Read, P: Parser> Segments<'r, R, P> {
     #[inline(always)]
     fn step(&mut self, opens: usize) -> Result<Option<Body>, Error<R::Error>>
         requires { progress_of self.old ≡ Open opens }
-        ensures steps { StepsOver R.Read P.kind (string_strict self.old) opens (string_decoder self.old) result
+        ensures steps { StepsOver R.Read P.kind (string_spelling self.old) opens (string_decoder self.old) result
             (progress_of self.new) (string_decoder self.new) }
         ensures goes_on { OnOk result (offset_of (string_decoder self.old) < offset_of (string_decoder self.new)) }
         ensures opens { opens_of (progress_of self.new) + offset_of (string_decoder self.old)
             ≤ opens + offset_of (string_decoder self.new) }
-        ensures mode { string_strict self.new ≡ string_strict self.old }
+        ensures mode { string_spelling self.new ≡ string_spelling self.old }
         ensures same_reference { string_reference self.new ≡ string_reference self.old }
         ensures moves_on { MovesOn R.Read (string_decoder self.old) (string_decoder self.new) }
     {
@@ -251,9 +252,9 @@ impl<'r, R: Read, P: Parser> Segments<'r, R, P> {
         spelling: Spelling,
     ) -> (Progress, Result<Option<Body>, Error<R::Error>>)
         ensures steps { (old new : AnyDecoder R) → PullsTitle R.Read old header new → place ≡ offset_of old
-            → StepsOver R.Read P.kind (is_shortest spelling) opens old result.1 result.0 new }
+            → StepsOver R.Read P.kind spelling opens old result.1 result.0 new }
         ensures opens { opens_of result.0 ≤ opens + 1 }
-        ensures shallow { IsTrue (is_shortest spelling) → opens ≤ 1 → opens_of result.0 ≤ 1 }
+        ensures shallow { spelling ≡ Shortest → opens ≤ 1 → opens_of result.0 ≤ 1 }
     {
         match P::length(header) {
             Some(Some(length)) => {

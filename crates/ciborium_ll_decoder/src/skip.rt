@@ -5,8 +5,8 @@ ghost use Rattle.ciborium_ll_decoder.specs.declared.dec.Decoder.{Decoder as AnyD
 ghost use Rattle.ciborium_ll_grammar.specs.declared.hdr.Header.TheVariants as Header;
 ghost use Rattle.ciborium_ll_grammar.specs.Title.{IsInRange, title_len};
 ghost use Rattle.ciborium_ll_grammar.specs.Strings.{Bytes as byte_strings, Text as text_strings, kind_header};
-ghost use Rattle.ciborium_ll_decoder.specs.Decoding.{MovesOn, TakesBack, offset_of, strict_of, waiting_of};
-ghost use Rattle.ciborium_ll_decoder.specs.Segments.{IsAtBeginning, string_decoder, string_reference, string_strict};
+ghost use Rattle.ciborium_ll_decoder.specs.Decoding.{MovesOn, TakesBack, offset_of, spelling_of, waiting_of};
+ghost use Rattle.ciborium_ll_decoder.specs.Segments.{IsAtBeginning, string_decoder, string_reference, string_spelling};
 ghost use Rattle.ciborium_ll_decoder.specs.Skipping.{SkipsOver, SkipsString};
 ghost use Rattle.ciborium_ll_grammar.specs.declared.limits.TheConstants.{LEAST_BUFFER};
 
@@ -72,7 +72,7 @@ fn skip_segments<R: Read, P: Chunked>(
     requires fresh { IsAtBeginning segments.old }
     ensures skipped { (opened : AnyDecoder R) (len : Option ℕ) → IsInRange (kind_header P.kind len)
         → waiting_of opened ≡ None → TakesBack R.Read opened (kind_header P.kind len) (string_decoder segments.old)
-        → string_strict segments.old ≡ strict_of opened
+        → string_spelling segments.old ≡ spelling_of opened
         → SkipsString R.Read P.kind len (length buffer.old) opened result (string_decoder segments.new) }
     ensures moves_on { MovesOn R.Read (string_decoder segments.old) (string_decoder segments.new) }
     ensures same_reference { string_reference segments.new ≡ string_reference segments.old }

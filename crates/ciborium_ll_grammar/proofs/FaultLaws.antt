@@ -1,6 +1,8 @@
 -- At a fault, the part that is due cannot come, or a strict decoder refuses it.
-use Rattle.std.proofs.Common.{◌≡◌, ℕ, ◌<◌, ◌⊎◌, Bool, true, false, List, ◌++◌, length, None, refl, [], ◌∷◌}
+use Rattle.std.proofs.Common.{◌≡◌, ℕ, ◌<◌, ◌⊎◌, List, ◌++◌, length, None, refl, [], ◌∷◌}
 use Rattle.std.proofs.Common.{append_assoc, length-append, arith, inl, inr}
+use Rattle.ciborium_ll_grammar.specs.declared.spelling.Spelling.{Spelling}
+use Rattle.ciborium_ll_grammar.specs.declared.spelling.Spelling.TheVariants.{Any, Shortest}
 use Rattle.ciborium_ll_grammar.specs.declared.hdr.Header.{Header}
 use Rattle.ciborium_ll_grammar.specs.Title.{IsTitle}
 use Rattle.ciborium_ll_grammar.specs.Strings.{Kind, Bytes, Text, kind_header, IsMisplaced}
@@ -81,18 +83,18 @@ too_short Bytes l s f = f
 too_short Text l s f = inl f
 
 -- A strict decoder alone refuses the title.
-pub data Refuses (strict : Bool) : Point → List ℕ → Type 0 where
+pub data Refuses (allowed : Spelling) : Point → List ℕ → Type 0 where
   long : {at : Point} {s t : List ℕ} (x : Header) (r : List ℕ) → IsAtTitle at → IsTitle t x
-      → (IsTakenTitle strict t x → ⊥) → s ≡ t ++ r → Refuses strict at s
-  nested : {k : Kind} {s t : List ℕ} (r : List ℕ) → strict ≡ true → IsTitle t (kind_header k None) → s ≡ t ++ r
-      → Refuses strict (In k) s
+      → (IsTakenTitle allowed t x → ⊥) → s ≡ t ++ r → Refuses allowed at s
+  nested : {k : Kind} {s t : List ℕ} (r : List ℕ) → allowed ≡ Shortest → IsTitle t (kind_header k None) → s ≡ t ++ r
+      → Refuses allowed (In k) s
 
 -- A decoder that takes any spelling refuses no such title.
-pub none_refused : (at : Point) (s : List ℕ) → Refuses false at s → ⊥
+pub none_refused : (at : Point) (s : List ℕ) → Refuses Any at s → ⊥
 none_refused at s (long x r d p untaken e) = untaken tt
 none_refused at s (nested r on p e) = absurd (let o = on in cc)
 
-pub lenient_misplaced : (k : Kind) (x : Header) → IsRefusedIn false k x → IsMisplaced k x
+pub lenient_misplaced : (k : Kind) (x : Header) → IsRefusedIn Any k x → IsMisplaced k x
 lenient_misplaced k x (inl f) = f
 lenient_misplaced k x (inr further) = absurd (let on = further.0 in cc)
 
@@ -100,10 +102,10 @@ lenient_misplaced k x (inr further) = absurd (let on = further.0 in cc)
 ruleset reasons = (stop, halt, bad_body, long, nested, stop_cut, stop_refused, halt_cut, halt_refused, halt_misplaced)
 
 -- At a fault, the part that is due cannot come, or a strict decoder refuses it.
-pub stuck_or_refused : (strict : Bool) (u : List ℕ) (ms : List Mark) (at : Point) (s : List ℕ) (a : Answer)
-    (out : List ℕ) (c : ℕ) → FirstFault strict u ms at s a out c → Stuck at s ⊎ Refuses strict at s
-stuck_or_refused strict u ms at s a out c f = grind (arith, reasons, too_short)
+pub stuck_or_refused : (allowed : Spelling) (u : List ℕ) (ms : List Mark) (at : Point) (s : List ℕ) (a : Answer)
+    (out : List ℕ) (c : ℕ) → FirstFault allowed u ms at s a out c → Stuck at s ⊎ Refuses allowed at s
+stuck_or_refused allowed u ms at s a out c f = grind (arith, reasons, too_short)
 
 pub stuck : (u : List ℕ) (ms : List Mark) (at : Point) (s : List ℕ) (a : Answer) (out : List ℕ) (c : ℕ)
-    → FirstFault false u ms at s a out c → Stuck at s
-stuck u ms at s a out c f = grind (arith, stuck_or_refused false u ms at s a out c f, none_refused)
+    → FirstFault Any u ms at s a out c → Stuck at s
+stuck u ms at s a out c f = grind (arith, stuck_or_refused Any u ms at s a out c f, none_refused)

@@ -1,5 +1,6 @@
 -- No item begins another item.
-use Rattle.std.proofs.Common.{◌≡◌, ℕ, zero, suc, Bool, List, [], ◌∷◌, ◌++◌, refl, sym, ◌∙◌, append_assoc, arith}
+use Rattle.std.proofs.Common.{◌≡◌, ℕ, zero, suc, List, [], ◌∷◌, ◌++◌, refl, sym, ◌∙◌, append_assoc, arith}
+use Rattle.ciborium_ll_grammar.specs.declared.spelling.Spelling.{Spelling}
 use Rattle.ciborium_ll_grammar.specs.declared.hdr.Header.{Header}
 use Rattle.ciborium_ll_grammar.specs.declared.hdr.Header.TheVariants as h
 use Rattle.ciborium_ll_grammar.specs.Title.{IsTitle}
@@ -16,13 +17,14 @@ abbrev Same : List ℕ → List ℕ → List ℕ → List ℕ → Type 0
 Same w w' v v' = (w ≡ w') × (v ≡ v')
 
 -- No item begins with a break.
-title_break : (s : Bool) (e : ℕ) (t r u v : List ℕ) (x : Header) → IsTitle t x → Completes s e x r → t ++ u ≡ 0xff ∷ v
+title_break : (s : Spelling) (e : ℕ) (t r u v : List ℕ) (x : Header) → IsTitle t x → Completes s e x r
+    → t ++ u ≡ 0xff ∷ v
     → ⊥
 title_break s e t r u v x p c z = grind (arith, one_title t (0xff ∷ []) u v x h.Break p break_title z)
 
 mutual
   -- No completion of a header begins another completion of the header.
-  one_completion : (s s' : Bool) (e : ℕ) (x : Header) (r : List ℕ) → Completes s e x r → (e' : ℕ) (r' v v' : List ℕ)
+  one_completion : (s s' : Spelling) (e : ℕ) (x : Header) (r : List ℕ) → Completes s e x r → (e' : ℕ) (r' v v' : List ℕ)
       → Completes s' e' x r' → r ++ v ≡ r' ++ v' → Same r r' v v'
   one_completion s s' e x r positive e' r' v v' positive z = (refl, z)
   one_completion s s' e x r negative e' r' v v' negative z = (refl, z)
@@ -43,7 +45,7 @@ mutual
       grind (arith, ended_items s s' _ _ w i _ _ w' v v' i' (simp append_assoc at z))
 
   -- No list of items begins another list of as many items.
-  same_items : (s s' : Bool) (e n : ℕ) (w : List ℕ) → AreItems s e n w → (e' : ℕ) (w' v v' : List ℕ)
+  same_items : (s s' : Spelling) (e n : ℕ) (w : List ℕ) → AreItems s e n w → (e' : ℕ) (w' v v' : List ℕ)
       → AreItems s' e' n w' → w ++ v ≡ w' ++ v' → Same w w' v v'
   same_items s s' e n w no_items e' w' v v' no_items z = (refl, z)
   same_items s s' e n w (more_items {rest = r} {others = a} p k c i) e' w' v v'
@@ -54,7 +56,7 @@ mutual
       grind arith
 
   -- If items and a break begin the same bytes as other items and a break, both are the same.
-  ended_items : (s s' : Bool) (e n : ℕ) (w : List ℕ) → AreItems s e n w → (e' n' : ℕ) (w' v v' : List ℕ)
+  ended_items : (s s' : Spelling) (e n : ℕ) (w : List ℕ) → AreItems s e n w → (e' n' : ℕ) (w' v v' : List ℕ)
       → AreItems s' e' n' w' → w ++ 0xff ∷ v ≡ w' ++ 0xff ∷ v' → Same w w' v v'
   ended_items s s' e n w no_items e' n' w' v v' no_items z = (refl, cc)
   ended_items s s' e n w no_items e' n' w' v v' (more_items p' k' c' i') z =
@@ -69,6 +71,6 @@ mutual
       grind arith
 
 -- No item begins another item, whatever their depths and spellings.
-pub one_item : (s s' : Bool) (e e' : ℕ) (w w' v v' : List ℕ) → IsItem s e w → IsItem s' e' w' → w ++ v ≡ w' ++ v'
+pub one_item : (s s' : Spelling) (e e' : ℕ) (w w' v v' : List ℕ) → IsItem s e w → IsItem s' e' w' → w ++ v ≡ w' ++ v'
     → Same w w' v v'
 one_item s s' e e' w w' v v' i i' z = same_items s s' e (suc zero) w i e' w' v v' i' z

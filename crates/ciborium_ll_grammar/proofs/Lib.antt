@@ -11,6 +11,7 @@ pub mod OpenStrings
 pub mod PartsLaws
 pub mod RunJoins
 pub mod SpelledLaws
+pub mod SpellingLaws
 pub mod StartLaws
 pub mod StepLaws
 pub mod StrictFaultLaws

@@ -1,7 +1,8 @@
 -- Elements that follow one another, and the first of them.
-use Rattle.std.proofs.Common.{◌≡◌, ℕ, suc, ◌<◌, true, List, [], ◌∷◌, ◌++◌, length, refl, sym, ◌∙◌, ap, arith}
+use Rattle.std.proofs.Common.{◌≡◌, ℕ, suc, ◌<◌, List, [], ◌∷◌, ◌++◌, length, refl, sym, ◌∙◌, ap, arith}
 use Rattle.std.proofs.Common.{append_assoc, append-nil, length-append}
 use Rattle.std.specs.List.{AllByRecursion}
+use Rattle.ciborium_ll_grammar.specs.declared.spelling.Spelling.TheVariants.{Shortest}
 use Rattle.ciborium_ll_grammar.specs.Elements.{Mark, IsElement, IsRun, done, next, spelling}
 use Rattle.ciborium_ll_grammar.specs.Elements.{IsNoSmallSimple, IsStrictRun}
 use Rattle.ciborium_ll_grammar.specs.Faults.{BeginsWithElements}
@@ -73,7 +74,7 @@ first_strict n w ms strict some = go n w ms strict.run strict.same strict.meant 
 
 -- If a strict run begins with some elements and bytes are left, a strict element begins these bytes.
 pub strict_next : (m : ℕ) (u : List ℕ) (ms : List Mark) → IsRun m u ms → (n : ℕ) (w : List ℕ) (ns : List Mark)
-    → IsStrictRun n w ns → (v : List ℕ) → w ≡ u ++ v → 0 < length v → BeginsWithElements true 1 v
+    → IsStrictRun n w ns → (v : List ℕ) → w ≡ u ++ v → 0 < length v → BeginsWithElements Shortest 1 v
 strict_next m u ms done n w ns strict v z some =
     let f = first_strict n w ns strict (omega (arith, some, ap length z)) in
     record {

@@ -1,7 +1,9 @@
 -- A fault and a run of enough elements exclude each other.
-use Rattle.std.proofs.Common.{◌≡◌, ℕ, ◌+◌, ◌≤◌, Bool, true, false, List, [], ◌∷◌, ◌++◌, length, Option, Some, None}
+use Rattle.std.proofs.Common.{◌≡◌, ℕ, ◌+◌, ◌≤◌, List, [], ◌∷◌, ◌++◌, length, Option, Some, None}
 use Rattle.std.proofs.Common.{refl, sym, ap, ◌∙◌, arith, append_assoc, append-nil, length-append}
 use Rattle.std.specs.List.{AllByRecursion}
+use Rattle.ciborium_ll_grammar.specs.declared.spelling.Spelling.{Spelling}
+use Rattle.ciborium_ll_grammar.specs.declared.spelling.Spelling.TheVariants.{Any, Shortest}
 use Rattle.ciborium_ll_grammar.specs.declared.hdr.Header.{Header}
 use Rattle.ciborium_ll_grammar.specs.declared.hdr.Header.TheVariants as h
 use Rattle.ciborium_ll_grammar.specs.Title.{IsTitle, IsSmallSimple, IsStrictTitle, shortest_title, title_len}
@@ -159,7 +161,7 @@ at_title_spelled point bytes marks d spelled = grind (arith, append-nil)
 
 -- If a strict decoder refuses a title, no strict run of `n` elements begins the bytes.
 strictly_stuck : (n : ℕ) (u : List ℕ) (ms : List Mark) (at : Point) → Reaches n u ms at
-    → IsStrictSpelling u ms (due_title at) → (s : List ℕ) → Refuses true at s
+    → IsStrictSpelling u ms (due_title at) → (s : List ℕ) → Refuses Shortest at s
     → (w v : List ℕ) (ns : List Mark) → IsStrictRun n w ns → u ++ s ≡ w ++ v → ⊥
 strictly_stuck n u ms at reach spelled s (long {t} x r d p untaken g) w v ns run e =
     untaken (title_strictly n u ms at reach d (at_title_spelled at u ms d spelled) t r x p w v ns run
@@ -167,16 +169,16 @@ strictly_stuck n u ms at reach spelled s (long {t} x r d p untaken g) w v ns run
 strictly_stuck n u ms at reach spelled s (nested {k} {t} r on p g) w v ns run e =
     (title_strictly n u ms (In k) reach tt (spelled_alone u ms spelled) t r _ p w v ns run (rw g at e)).1 refl
 
-refused_none : (strict : Bool) (n : ℕ) (x : List ℕ) (r : BeginsWithElements strict n x) (f : HasFault strict n x)
-    → Refuses strict f.point f.ahead → ⊥
-refused_none false n x r f refuses = none_refused f.point f.ahead refuses
-refused_none true n x r f refuses =
+refused_none : (allowed : Spelling) (n : ℕ) (x : List ℕ) (r : BeginsWithElements allowed n x) (f : HasFault allowed n x)
+    → Refuses allowed f.point f.ahead → ⊥
+refused_none Any n x r f refuses = none_refused f.point f.ahead refuses
+refused_none Shortest n x r f refuses =
     let run = r.spelled refl in
     strictly_stuck n f.before f.marks f.point f.reach (f.spelled refl) f.ahead refuses r.elements r.rest r.marks
     (record { run = r.run; same = spelled_alone r.elements r.marks run; meant = run.meant }) (sym f.is ∙ r.is)
 
 -- Bytes that begin with `n` elements have no fault.
-pub no_fault : (strict : Bool) (n : ℕ) (x : List ℕ) → BeginsWithElements strict n x → HasFault strict n x → ⊥
-no_fault strict n x r f =
+pub no_fault : (allowed : Spelling) (n : ℕ) (x : List ℕ) → BeginsWithElements allowed n x → HasFault allowed n x → ⊥
+no_fault allowed n x r f =
     let from : f.before ++ f.ahead ≡ r.elements ++ r.rest = sym f.is ∙ r.is in
-    grind (arith, stuck_or_refused, reach_stuck, refused_none strict n x r f)
+    grind (arith, stuck_or_refused, reach_stuck, refused_none allowed n x r f)

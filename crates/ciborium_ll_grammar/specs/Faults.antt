@@ -1,7 +1,9 @@
 -- The way of a copy through elements in bytes, the part due at each point, and the first fault, which stops the copy.
--- If only the shortest spelling is taken (`strict`), a few more things are faults, none of them before the first fault.
-use Rattle.std.specs.Prelude.{◌≡◌, ℕ, ◌+◌, ◌-◌, ◌<◌, ◌≤◌, ◌⊎◌, Bool, true, min, List, [], ◌∷◌, ◌++◌, length, take}
+-- If only the shortest spelling is allowed, a few more things are faults, none of them before the first fault.
+use Rattle.std.specs.Prelude.{◌≡◌, ℕ, ◌+◌, ◌-◌, ◌<◌, ◌≤◌, ◌⊎◌, min, List, [], ◌∷◌, ◌++◌, length, take}
 use Rattle.std.specs.Prelude.{Some, None}
+use Rattle.ciborium_ll_grammar.specs.declared.spelling.Spelling.{Spelling}
+use Rattle.ciborium_ll_grammar.specs.declared.spelling.Spelling.TheVariants.{Shortest}
 use Rattle.ciborium_ll_grammar.specs.declared.hdr.Header.{Header}
 use Rattle.ciborium_ll_grammar.specs.Title.{IsTitle, shortest_title, title_len, IsCutTitle, BeginsRefused}
 use Rattle.ciborium_ll_grammar.specs.Strings.{Kind, Text, kind_header, AreStrings, IsMisplaced, IsWritable, most_kept}
@@ -56,8 +58,8 @@ IsAtTitle (BodyDue kind len start) = ⊥
 
 -- A decoder refuses this header within a string of the kind. A strict decoder refuses a further open too. After `5f`, a
 -- decoder refuses the title `01`, and a strict decoder refuses `5f` too.
-abbrev pub IsRefusedIn : Bool → Kind → Header → Type 0
-IsRefusedIn strict kind header = IsMisplaced kind header ⊎ ((strict ≡ true) × (header ≡ kind_header kind None))
+abbrev pub IsRefusedIn : Spelling → Kind → Header → Type 0
+IsRefusedIn allowed kind header = IsMisplaced kind header ⊎ ((allowed ≡ Shortest) × (header ≡ kind_header kind None))
 
 -- The bytes end too early, or the bytes at this offset are not of the grammar. For `19 01` the answer is `Short`, and
 -- for `1c` it is `Syntax 0`.
@@ -70,68 +72,68 @@ pub data Answer : Type 0 where
 abbrev pub with_front : List Mark → Kind → ℕ → List ℕ → List ℕ
 with_front marks kind len front = spelling marks ++ (shortest_title (kind_header kind (Some len)) ++ front)
 
--- `FirstFault strict before marks point ahead answer written consumed`: the bytes before left the marks, and the bytes
+-- `FirstFault allowed before marks point ahead answer written consumed`: the bytes before left the marks, and the bytes
 -- ahead are at fault at this point. `written` is everything written, and `consumed` counts the bytes ahead that are
 -- consumed (RFC 7049, 2.1, 2.2.2, 2.3 and 3.9). After `81`, the byte `1c` has the answer `Syntax 1`.
-pub data FirstFault (strict : Bool) (before : List ℕ) (marks : List Mark) :
+pub data FirstFault (allowed : Spelling) (before : List ℕ) (marks : List Mark) :
     Point → List ℕ → Answer → List ℕ → ℕ → Type 0 where
   -- A title is due, and the bytes end before it or within it.
   CutTitle : {point : Point} {ahead : List ℕ} → IsAtTitle point → IsCutTitle ahead
-      → FirstFault strict before marks point ahead Short (spelling marks) (min 1 (length ahead))
+      → FirstFault allowed before marks point ahead Short (spelling marks) (min 1 (length ahead))
   -- A title is due, and no title begins with the byte that comes.
   NoTitle : {point : Point} {ahead : List ℕ} → IsAtTitle point → BeginsRefused ahead
-      → FirstFault strict before marks point ahead (Syntax (length before)) (spelling marks) 1
+      → FirstFault allowed before marks point ahead (Syntax (length before)) (spelling marks) 1
   -- A title is due, only strict titles are taken, and the title is not the shortest or is a simple value from 24 to 31.
   LongTitle : {point : Point} {title ahead : List ℕ} (header : Header) (rest : List ℕ) → IsAtTitle point
-      → IsTitle title header → (IsTakenTitle strict title header → ⊥) → ahead ≡ title ++ rest
-      → FirstFault strict before marks point ahead (Syntax (length before)) (spelling marks) (length title)
+      → IsTitle title header → (IsTakenTitle allowed title header → ⊥) → ahead ≡ title ++ rest
+      → FirstFault allowed before marks point ahead (Syntax (length before)) (spelling marks) (length title)
   -- A title comes that may not stand within this string.
   OtherTitle : {kind : Kind} {title ahead : List ℕ} (header : Header) (rest : List ℕ) → IsTitle title header
-      → IsRefusedIn strict kind header
+      → IsRefusedIn allowed kind header
       → ahead ≡ title ++ rest
-      → FirstFault strict before marks (In kind) ahead (Syntax (length before)) (spelling marks) (length title)
+      → FirstFault allowed before marks (In kind) ahead (Syntax (length before)) (spelling marks) (length title)
   -- The whole body of a text is there, and is not UTF-8. The copy consumed the bytes that it writes.
   DamagedText : {len start consumed : ℕ} {ahead : List ℕ} (front rest : List ℕ) → len ≤ length ahead
       → (IsCharacters (take len ahead) → ⊥)
       → take len ahead ≡ front ++ rest → IsCharacters front → length front ≤ consumed → consumed ≤ len
-      → FirstFault strict before marks (BodyDue Text len start) ahead (Syntax start) (with_front marks Text len front)
+      → FirstFault allowed before marks (BodyDue Text len start) ahead (Syntax start) (with_front marks Text len front)
       consumed
   -- The bytes end within a body.
   CutBody : {kind : Kind} {len start consumed : ℕ} {ahead : List ℕ} (front rest : List ℕ) → length ahead < len
       → ahead ≡ front ++ rest
       → IsWritable kind front → length front ≤ consumed → consumed ≤ length front + most_kept kind → consumed
       ≤ length ahead
-      → FirstFault strict before marks (BodyDue kind len start) ahead Short (with_front marks kind len front) consumed
+      → FirstFault allowed before marks (BodyDue kind len start) ahead Short (with_front marks kind len front) consumed
   -- The bytes end within the body of a text, and no text begins with them. The copy consumed the bytes that it writes.
   CutDamagedText : {len start consumed : ℕ} {ahead : List ℕ} (front rest : List ℕ) → length ahead < len
       → BeginsNoText ahead
       → ahead ≡ front ++ rest → IsCharacters front → length front ≤ consumed → consumed ≤ length ahead
-      → FirstFault strict before marks (BodyDue Text len start) ahead (Syntax start) (with_front marks Text len front)
+      → FirstFault allowed before marks (BodyDue Text len start) ahead (Syntax start) (with_front marks Text len front)
       consumed
 
 -- ---- both over whole lists
 
 -- The bytes begin with `count` elements, in their shortest spelling if only this is taken. `81 01 02` begins with two
 -- elements and has the rest `02`.
-pub record BeginsWithElements (strict : Bool) (count : ℕ) (bytes : List ℕ) : Type 0 where
+pub record BeginsWithElements (allowed : Spelling) (count : ℕ) (bytes : List ℕ) : Type 0 where
   pub elements : List ℕ
   pub marks : List Mark
   pub rest : List ℕ
   pub run : IsRun count elements marks
   pub is : bytes ≡ elements ++ rest
-  pub spelled : strict ≡ true → IsStrictSpelling elements marks []
+  pub spelled : allowed ≡ Shortest → IsStrictSpelling elements marks []
 
--- The shortest title of a body that is due, which alone is taken if `strict` is true. For a byte string of 256 bytes it
--- is `59 01 00`.
+-- The shortest title of a body that is due, which alone is taken for `Shortest`. For a byte string of 256 bytes it is
+-- `59 01 00`.
 abbrev pub due_title : Point → List ℕ
 due_title Due = []
 due_title (In kind) = []
 due_title (BodyDue kind len start) = shortest_title (kind_header kind (Some len))
 
--- A fault stops a copy of `count` elements. If `strict` is true, everything before it is in its shortest spelling. By
--- the laws `run_or_fault` and `no_fault`, any bytes begin with `count` elements (`BeginsWithElements`) or have a fault,
--- never both. If `count` is 2, `81` has a fault, and `81 01` has none.
-pub record HasFault (strict : Bool) (count : ℕ) (bytes : List ℕ) : Type 0 where
+-- A fault stops a copy of `count` elements. If `allowed` is `Shortest`, everything before it is in its shortest
+-- spelling. By the laws `run_or_fault` and `no_fault`, any bytes begin with `count` elements (`BeginsWithElements`) or
+-- have a fault, never both. If `count` is 2, `81` has a fault, and `81 01` has none.
+pub record HasFault (allowed : Spelling) (count : ℕ) (bytes : List ℕ) : Type 0 where
   pub before : List ℕ
   pub marks : List Mark
   pub point : Point
@@ -141,5 +143,5 @@ pub record HasFault (strict : Bool) (count : ℕ) (bytes : List ℕ) : Type 0 wh
   pub consumed : ℕ
   pub reach : Reaches count before marks point
   pub is : bytes ≡ before ++ ahead
-  pub spelled : strict ≡ true → IsStrictSpelling before marks (due_title point)
-  pub fault : FirstFault strict before marks point ahead answer written consumed
+  pub spelled : allowed ≡ Shortest → IsStrictSpelling before marks (due_title point)
+  pub fault : FirstFault allowed before marks point ahead answer written consumed

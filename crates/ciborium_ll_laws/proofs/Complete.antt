@@ -1,9 +1,12 @@
 -- Bytes begin with `n` elements, or a fault stops them.
-use Rattle.std.proofs.Common.{◌≡◌, ℕ, zero, suc, ◌%◌, ◌<◌, ◌≤◌, ◌⊎◌, Bool, true, List, [], ◌∷◌}
+use Rattle.std.proofs.Common.{◌≡◌, ℕ, zero, suc, ◌%◌, ◌<◌, ◌≤◌, ◌⊎◌, List, [], ◌∷◌}
 use Rattle.std.proofs.Common.{◌++◌, length, take, drop, Some, None, refl, sym, ap, ◌∙◌, append_assoc, arith}
 use Rattle.std.proofs.Common.{inl, inr}
-use Rattle.std.proofs.lemmas.Bool.{cases_Bool, cases_lt}
+use Rattle.std.proofs.lemmas.Bool.{cases_lt}
 use Rattle.std.proofs.lemmas.List.{append-nil, length-append, take-append-drop, length-take, length-take-le}
+use Rattle.ciborium_ll_grammar.specs.declared.spelling.Spelling.{Spelling}
+use Rattle.ciborium_ll_grammar.specs.declared.spelling.Spelling.TheVariants.{Shortest}
+use Rattle.ciborium_ll_grammar.proofs.SpellingLaws.{either_allowed}
 use Rattle.ciborium_ll_grammar.specs.declared.hdr.Header.{Header}
 use Rattle.ciborium_ll_grammar.specs.declared.hdr.Header.TheVariants as h
 use Rattle.ciborium_ll_grammar.specs.Title.{IsTitle, affix_len, IsCutTitle, BeginsRefused, AreBytes}
@@ -52,9 +55,9 @@ small_or_not : (x : Header) → IsSmallSimple x ⊎ (IsSmallSimple x → ⊥)
 small_or_not (h.Simple m) = let low = cases_lt m 24 in let high = cases_lt m 32 in grind arith
 small_or_not x = inr (λ s. s)
 
-taken_or_not : (strict : Bool) (t : List ℕ) (x : Header) → IsTitle t x
-    → IsTakenTitle strict t x ⊎ (IsTakenTitle strict t x → ⊥)
-taken_or_not strict t x p = let small = small_or_not x in let shortest = shortest_or_longer x t p in grind arith
+taken_or_not : (allowed : Spelling) (t : List ℕ) (x : Header) → IsTitle t x
+    → IsTakenTitle allowed t x ⊎ (IsTakenTitle allowed t x → ⊥)
+taken_or_not allowed t x p = let small = small_or_not x in let shortest = shortest_or_longer x t p in grind arith
 
 -- If the title of a body is the shortest, the title and the body are the spelling of the body.
 body_same : {l : ℕ} {t : List ℕ} (k : Kind) (b : List ℕ) → t ≡ shortest_title (kind_header k (Some l)) → length b ≡ l
@@ -109,37 +112,37 @@ AreBytes-rest (x ∷ a) b f = AreBytes-rest a b f.1
 
 -- ---- one step
 
-module _ (strict : Bool) (n : ℕ) where
+module _ (allowed : Spelling) (n : ℕ) where
   -- If only the shortest spelling is taken, the bytes are the spelling of the marks.
   abbrev Spelled : List ℕ → List Mark → List ℕ → Type 0
-  Spelled u ms more = strict ≡ true → IsStrictSpelling u ms more
+  Spelled u ms more = allowed ≡ Shortest → IsStrictSpelling u ms more
 
   -- The bytes are a part of `n` elements: a run, or a run and a string that is not closed.
   data Going : List ℕ → Type 0 where
     between : {u : List ℕ} (i : ℕ) (ms : List Mark) → i ≤ n → IsRun i u ms → Spelled u ms [] → Going u
     within : {u v : List ℕ} (i j : ℕ) (ms : List Mark) (bs : List (List ℕ)) (k : Kind) → i < n → IsRun i u ms
-        → IsInsideAt k (suc j) v bs → AreWritable k bs → (strict ≡ true → j ≡ 0)
+        → IsInsideAt k (suc j) v bs → AreWritable k bs → (allowed ≡ Shortest → j ≡ 0)
         → Spelled (u ++ v) (ms ++ Open k ∷ pieces k bs) [] → Going (u ++ v)
 
   -- One step over a title gives `n` elements, a fault, or fewer bytes ahead.
   data Step (u s : List ℕ) : Type 0 where
-    whole : BeginsWithElements strict n (u ++ s) → Step u s
-    fails : HasFault strict n (u ++ s) → Step u s
+    whole : BeginsWithElements allowed n (u ++ s) → Step u s
+    fails : HasFault allowed n (u ++ s) → Step u s
     goes : (t rest : List ℕ) → Going (u ++ t) → s ≡ t ++ rest → 0 < length t → Step u s
 
   faulty : {u s out : List ℕ} {ms : List Mark} {at : Point} {a : Answer} {c : ℕ} → Reaches n u ms at
-      → Spelled u ms (due_title at) → FirstFault strict u ms at s a out c → HasFault strict n (u ++ s)
+      → Spelled u ms (due_title at) → FirstFault allowed u ms at s a out c → HasFault allowed n (u ++ s)
   faulty {u = u} {s = s} reach sp fault = let is : u ++ s ≡ u ++ s = refl in search
 
   -- The step at a place where a title is due, if there is a step over each title that is taken.
   title_step : {u s : List ℕ} {ms : List Mark} {at : Point} → Reaches n u ms at → IsAtTitle at
       → Spelled u ms (due_title at)
-      → ((t rest : List ℕ) (x : Header) → IsTitle t x → IsTakenTitle strict t x → s ≡ t ++ rest → Step u s) → Sight s
+      → ((t rest : List ℕ) (x : Header) → IsTitle t x → IsTakenTitle allowed t x → s ≡ t ++ rest → Step u s) → Sight s
       → Step u s
   title_step reach d sp on (ends c) = fails (faulty reach sp (CutTitle d c))
   title_step reach d sp on (refuses c) = fails (faulty reach sp (NoTitle d c))
   title_step reach d sp on (titled t rest x p q) =
-      elim (taken_or_not strict t x p) [
+      elim (taken_or_not allowed t x p) [
         | inl taken ↦ on t rest x p taken q
         | inr untaken ↦ fails (faulty reach sp (LongTitle x rest d p untaken q))
       ]
@@ -149,7 +152,7 @@ module _ (strict : Bool) (n : ℕ) where
       → Reaches n (u ++ t) ms (BodyDue k l p) → Spelled (u ++ t) ms (shortest_title (kind_header k (Some l)))
       → s ≡ t ++ rest → ((b more : List ℕ) → s ≡ (t ++ b) ++ more → length b ≡ l → IsWritable k b → Step u s) → Step u s
   body_step {u = u} {s = s} {k = k} {l = l} t rest reach sp q on =
-      let there : HasFault strict n ((u ++ t) ++ rest) → Step u s = λ f. fails (rw q (rw append_assoc at f)) in
+      let there : HasFault allowed n ((u ++ t) ++ rest) → Step u s = λ f. fails (rw q (rw append_assoc at f)) in
       elim (cases_lt (length rest) l) [
         | inl few ↦ there (faulty {c = 0} reach sp
             (CutBody [] rest few refl (part_nil k) (omega arith) (omega arith) (omega arith)))
@@ -163,7 +166,7 @@ module _ (strict : Bool) (n : ℕ) where
 
   -- The step over a title that is taken, at a place where an element is due.
   due_titled : {i : ℕ} {u s t : List ℕ} {ms : List Mark} {x : Header} (rest : List ℕ) → View x → i < n → IsRun i u ms
-      → Spelled u ms [] → IsTitle t x → IsTakenTitle strict t x → s ≡ t ++ rest → Step u s
+      → Spelled u ms [] → IsTitle t x → IsTakenTitle allowed t x → s ≡ t ++ rest → Step u s
   due_titled {i = i} {u = u} {t = t} {ms = ms} {x = x} rest (is_plain o) l r sp p taken q =
       goes t rest (between (suc i) (ms ++ Plain x ∷ []) l (add_element i u ms r t (Plain x ∷ []) (plain x p o)) (λ on.
       let d = rw on at taken in
@@ -183,7 +186,7 @@ module _ (strict : Bool) (n : ℕ) where
 
   -- The step over a break.
   break_step : {i : ℕ} {u v s rest : List ℕ} {ms : List Mark} {bs : List (List ℕ)} {k : Kind} (j : ℕ) → i < n
-      → IsRun i u ms → IsInsideAt k (suc j) v bs → AreWritable k bs → (strict ≡ true → j ≡ 0)
+      → IsRun i u ms → IsInsideAt k (suc j) v bs → AreWritable k bs → (allowed ≡ Shortest → j ≡ 0)
       → Spelled (u ++ v) (ms ++ Open k ∷ pieces k bs) [] → s ≡ 0xff ∷ rest → Step (u ++ v) s
   break_step {i = i} {u = u} {v = v} {rest = rest} {ms = ms} {bs = bs} {k = k} zero l r ia ok single sp q =
       let closed = Open k ∷ (pieces k bs ++ Close ∷ []) in
@@ -198,20 +201,20 @@ module _ (strict : Bool) (n : ℕ) where
 
   -- The steps within a string.
   module _ {i j : ℕ} {u v : List ℕ} {ms : List Mark} {bs : List (List ℕ)} {k : Kind} (l : i < n) (r : IsRun i u ms)
-      (ia : IsInsideAt k (suc j) v bs) (ok : AreWritable k bs) (single : strict ≡ true → j ≡ 0)
+      (ia : IsInsideAt k (suc j) v bs) (ok : AreWritable k bs) (single : allowed ≡ Shortest → j ≡ 0)
       (sp : Spelled (u ++ v) (ms ++ Open k ∷ pieces k bs) []) where
     reach : Reaches n (u ++ v) (ms ++ Open k ∷ pieces k bs) (In k)
     reach = inside l r (counted k (suc j) v bs ia) ok
 
     -- The step over a title that is taken, within a string.
-    in_titled : {s t : List ℕ} {x : Header} (rest : List ℕ) → ViewIn k x → IsTitle t x → IsTakenTitle strict t x
+    in_titled : {s t : List ℕ} {x : Header} (rest : List ℕ) → ViewIn k x → IsTitle t x → IsTakenTitle allowed t x
         → s ≡ t ++ rest → Step (u ++ v) s
     in_titled {x = x} rest (in_misplaced f) p taken q =
         fails (faulty reach sp (OtherTitle x rest p (inl f) q))
     in_titled {t = t} rest in_break p taken q =
         break_step j l r ia ok single sp (rw (alone_bytes t h.Break p refl) at q)
     in_titled {t = t} rest in_open p taken q =
-        elim (cases_Bool strict) [
+        elim (either_allowed allowed) [
           | inl on ↦ fails (faulty reach sp (OtherTitle _ rest p (inr (on, refl)) q))
           | inr off ↦ goes t rest (rw append_assoc (within i (suc j) ms bs k l r (add_open k (suc j) v t bs ia p) ok
               (λ on. absurd (let a = off in cc)) (λ on. absurd (let a = off in cc)))) q (title_some t _ p)
@@ -246,7 +249,7 @@ module _ (strict : Bool) (n : ℕ) where
 
   -- All steps, by induction on the number of bytes ahead.
   all_steps : (fuel : ℕ) {u : List ℕ} (s : List ℕ) → length s < fuel → Going u → AreBytes s
-      → BeginsWithElements strict n (u ++ s) ⊎ HasFault strict n (u ++ s)
+      → BeginsWithElements allowed n (u ++ s) ⊎ HasFault allowed n (u ++ s)
   all_steps zero s l g f = absurd (omega arith)
   all_steps (suc fuel) {u = u} s l g f =
       elim (step g s f) [
@@ -259,6 +262,7 @@ module _ (strict : Bool) (n : ℕ) where
       ]
 
 -- Any bytes begin with a run of `n` elements, or a fault stops it.
-pub complete : (strict : Bool) (n : ℕ) (x : List ℕ) → AreBytes x → BeginsWithElements strict n x ⊎ HasFault strict n x
-complete strict n x f =
-    all_steps strict n (suc (length x)) x (omega arith) (between 0 [] (omega arith) done (λ on. spelled_none)) f
+pub complete : (allowed : Spelling) (n : ℕ) (x : List ℕ) → AreBytes x → BeginsWithElements allowed n x
+    ⊎ HasFault allowed n x
+complete allowed n x f =
+    all_steps allowed n (suc (length x)) x (omega arith) (between 0 [] (omega arith) done (λ on. spelled_none)) f

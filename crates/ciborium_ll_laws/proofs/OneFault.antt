@@ -1,7 +1,8 @@
 -- The faults of the same bytes are all at one place, if any spelling is taken.
-use Rattle.std.proofs.Common.{arith, [], ◌≡◌, ℕ, ◌-◌, ◌<◌, ◌⊎◌, false, List, ◌∷◌, ◌++◌, length, Some, None, refl, sym}
+use Rattle.std.proofs.Common.{arith, [], ◌≡◌, ℕ, ◌-◌, ◌<◌, ◌⊎◌, List, ◌∷◌, ◌++◌, length, Some, None, refl, sym}
 use Rattle.std.proofs.Common.{ap, ◌∙◌, append_assoc, inl, inr}
 use Rattle.std.proofs.lemmas.Bool.{cases_order}
+use Rattle.ciborium_ll_grammar.specs.declared.spelling.Spelling.TheVariants.{Any}
 use Rattle.ciborium_ll_grammar.specs.declared.hdr.Header.{Header}
 use Rattle.ciborium_ll_grammar.specs.Title.{IsTitle, IsCutTitle, BeginsRefused, title_len}
 use Rattle.ciborium_ll_grammar.specs.Strings.{Kind, kind_header, IsString, AreStrings, none, more, IsMisplaced}
@@ -187,7 +188,7 @@ place_of (BodyDue j m p) k l u t = Due
 
 -- The body at a fault is bad.
 bad_of : {k : Kind} {l p : ℕ} {s u : List ℕ} {ms : List Mark} {a : Answer} {out : List ℕ} {c : ℕ}
-    → FirstFault false u ms (BodyDue k l p) s a out c → IsBad k l s
+    → FirstFault Any u ms (BodyDue k l p) s a out c → IsBad k l s
 bad_of (CutTitle d f) = absurd d
 bad_of (NoTitle d f) = absurd d
 bad_of (LongTitle x r d q untaken e) = absurd d
@@ -203,7 +204,7 @@ data Seen (n : ℕ) : List ℕ → List Mark → Point → List ℕ → Type 0 w
 
 -- Each fault is at such a place.
 seen : {n : ℕ} {u s : List ℕ} {ms : List Mark} {at : Point} {a : Answer} {out : List ℕ} {c : ℕ}
-    → Reaches n u ms at → FirstFault false u ms at s a out c → Seen n u ms at s
+    → Reaches n u ms at → FirstFault Any u ms at s a out c → Seen n u ms at s
 seen (due l r) (CutTitle d f) = seen_flat (at_due l r (stop_cut f)) (cut_bodiless Due f)
 seen (due l r) (NoTitle d f) = seen_flat (at_due l r (stop_refused f)) (refused_bodiless Due f)
 seen (inside {kind = k} l r q ok) (CutTitle d f) = seen_flat (at_in l r q ok (halt_cut f)) (cut_bodiless (In k) f)
@@ -236,7 +237,7 @@ one_seen {s = s} {s' = s'} (seen_deep {t} k l b o q) (seen_deep {t = t'} k' l' b
     (cc, z.1, cc, g.3)
 
 -- All faults of the same bytes are at one place.
-pub one_fault : (n : ℕ) (x : List ℕ) (f g : HasFault false n x) → SameBase f.before g.before f.marks g.marks f.point
+pub one_fault : (n : ℕ) (x : List ℕ) (f g : HasFault Any n x) → SameBase f.before g.before f.marks g.marks f.point
     g.point f.ahead g.ahead
 one_fault n x f g = one_seen (seen f.reach f.fault) (seen g.reach g.fault) (sym f.is ∙ g.is)
 
@@ -264,7 +265,7 @@ ends_title at s u d = grind arith
 -- A fault has the answer `Short` only if the bytes end there. It has `Syntax` only if they do not, or if no text begins
 -- with them.
 answer_is : {u s : List ℕ} {ms : List Mark} {at : Point} {a : Answer} {out : List ℕ} {c : ℕ}
-    → FirstFault false u ms at s a out c
+    → FirstFault Any u ms at s a out c
     → ((a ≡ Short) × Ends at s) ⊎ ((a ≡ Syntax (offset_due at u)) × ((Ends at s → ⊥) ⊎ BeginsNoText s))
 answer_is {u = u} {s = s} {at = at} (CutTitle d f) = inl (refl, (ends_title at s u d).0 f)
 answer_is {u = u} {s = s} {at = at} (NoTitle d f) =
@@ -282,9 +283,9 @@ same_answer : {A B : Type 0} {a a' b c : Answer} → ((a ≡ b) × A) ⊎ ((a �
 same_answer f g = grind arith
 
 -- The faults of the same bytes have one answer, unless no text begins with the bytes ahead.
-pub one_answer : (n : ℕ) (x : List ℕ) (f g : HasFault false n x) → (f.answer ≡ g.answer) ⊎ BeginsNoText f.ahead
+pub one_answer : (n : ℕ) (x : List ℕ) (f g : HasFault Any n x) → (f.answer ≡ g.answer) ⊎ BeginsNoText f.ahead
 one_answer n x f g =
     let e = one_fault n x f g in
-    let there : FirstFault false f.before f.marks f.point f.ahead g.answer g.written g.consumed =
+    let there : FirstFault Any f.before f.marks f.point f.ahead g.answer g.written g.consumed =
     rw (e.0, e.1, e.2, e.3) g.fault in
     same_answer (answer_is f.fault) (answer_is there)

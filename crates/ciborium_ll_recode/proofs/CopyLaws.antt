@@ -235,12 +235,12 @@ module _ {R E W F : Type 0} (source : Reader R E) (sink : Writer W F) where
       → Copied source sink old (bytes ++ w) (marks ++ ms) new
       → Strictly old.decoder ((w ≡ spelling ms) × AllByRecursion IsNoSmallSimple ms)
       → CopiesRun source sink (suc before) old new
-  added {before} {bytes = bytes} {marks} w ms run strict element copied same = record {
+  added {before} {bytes = bytes} {marks} w ms run allowed element copied same = record {
     bytes = bytes ++ w;
     marks = marks ++ ms;
     run = add_element before bytes marks run w ms element;
     copied = copied;
-    strict = λ on none. spelled_then bytes marks w ms (strict on none) (same on none).0 (same on none).1;
+    strict = λ on none. spelled_then bytes marks w ms (allowed on none) (same on none).0 (same on none).1;
   }
 
   module _ {count before : ℕ} {title : List ℕ} {old now : Sides R W}

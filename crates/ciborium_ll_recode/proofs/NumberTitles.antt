@@ -1,7 +1,9 @@
 -- The titles of a number in `Shortens` are the titles of its header.
-use Rattle.std.proofs.Common.{◌≡◌, ℕ, ◌+◌, ◌*◌, ◌<◌, ◌≤◌, ◌^◌, Bool, true, List, [], ◌∷◌, length, Option, Some, None}
+use Rattle.std.proofs.Common.{◌≡◌, ℕ, ◌+◌, ◌*◌, ◌<◌, ◌≤◌, ◌^◌, List, [], ◌∷◌, length, Option, Some, None}
 use Rattle.std.proofs.Common.{refl, sym, ap, ◌∙◌, arith, IfSome}
 use Rattle.std.proofs.lemmas.Bool.Decides.{nat_tests}
+use Rattle.ciborium_ll_grammar.specs.declared.spelling.Spelling.{Spelling}
+use Rattle.ciborium_ll_grammar.specs.declared.spelling.Spelling.TheVariants.{Shortest}
 use Rattle.ciborium_ll_grammar.specs.declared.hdr.Header.{Header}
 use Rattle.ciborium_ll_grammar.specs.declared.hdr.Header.TheVariants as h
 use Rattle.ciborium_ll_grammar.specs.declared.hdr.Float.TheVariants as f
@@ -61,7 +63,7 @@ sized : (m : Major) (n minor : ℕ) (affix : List ℕ) → SaysNumber minor affi
     → HasNumber m n ((32 * major_code m + minor) ∷ affix)
 sized m n minor affix says = grind arith
 
-pub has_number : (b : Bool) (m : Major) (n : ℕ) (title : List ℕ) → IsNumberTitle b (major_code m) n title
+pub has_number : (b : Spelling) (m : Major) (n : ℕ) (title : List ℕ) → IsNumberTitle b (major_code m) n title
     → HasNumber m n title
 has_number b m n title p = let z = sized m n p.minor p.affix p.says in (z.0, z.1, p.is ∙ z.2)
 
@@ -74,8 +76,8 @@ fewest_least : (s : Size) (n : ℕ) → n < size_limit s → length (affix_of s 
 fewest_least s n below few = grind (arith, nat_tests)
 
 -- A title of a size is a title of its number. With the least size, it is the shortest title.
-pub taken_title : (b : Bool) (m : Major) (n : ℕ) (title : List ℕ) → HasNumber m n title
-    → (b ≡ true → title ≡ shortest_numbered m n) → IsNumberTitle b (major_code m) n title
+pub taken_title : (b : Spelling) (m : Major) (n : ℕ) (title : List ℕ) → HasNumber m n title
+    → (b ≡ Shortest → title ≡ shortest_numbered m n) → IsNumberTitle b (major_code m) n title
 taken_title b m n title z least =
     record {
       minor = minor_of z.0 n;
@@ -88,15 +90,16 @@ taken_title b m n title z least =
           );
     }
 
-pub least_title : (b : Bool) (m : Major) (n : ℕ) → n < 2 ^ 64 → IsNumberTitle b (major_code m) n (shortest_numbered m n)
+pub least_title : (b : Spelling) (m : Major) (n : ℕ) → n < 2 ^ 64
+    → IsNumberTitle b (major_code m) n (shortest_numbered m n)
 least_title b m n below =
     taken_title b m n (shortest_numbered m n) (least_size n, least_fits n below, refl) (λ on. refl)
 
 -- A title with the fewest bytes has the least size.
-pub fewest_is : (m : Major) (n : ℕ) (title : List ℕ) → IsNumberTitle true (major_code m) n title
+pub fewest_is : (m : Major) (n : ℕ) (title : List ℕ) → IsNumberTitle Shortest (major_code m) n title
     → title ≡ shortest_numbered m n
 fewest_is m n title p =
-    let z = has_number true m n title p in
+    let z = has_number Shortest m n title p in
     let least = least_size n in
     let few = p.fewest refl _ _ (says_of least n (least_fits n (size_below z.0 n z.1))) in
     let same = fewest_least z.0 n z.1 (omega (arith, few, ap length (sym p.is ∙ z.2))) in

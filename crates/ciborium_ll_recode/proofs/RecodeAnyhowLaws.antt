@@ -1,6 +1,6 @@
 -- A copy of elements if bytes are told, whichever side fails: how far the copy came, and the stop there.
-use Rattle.std.proofs.Common.{◌≡◌, ℕ, Bool, ◌+◌, ◌-◌, ◌≤◌, List, [], ◌∷◌, ◌++◌, length, take, drop, Some, refl, sym, ap}
-use Rattle.std.proofs.Common.{true, subst, ◌^◌, max, None, Result, Ok, Err, ◌∙◌, inl, inr, arith, append_assoc}
+use Rattle.std.proofs.Common.{◌≡◌, ℕ, ◌+◌, ◌-◌, ◌≤◌, List, [], ◌∷◌, ◌++◌, length, take, drop, Some, refl, sym, ap}
+use Rattle.std.proofs.Common.{subst, ◌^◌, max, None, Result, Ok, Err, ◌∙◌, inl, inr, arith, append_assoc}
 use Rattle.std.proofs.Common.{length-append}
 use Rattle.std.proofs.Math.Seq.{drop-append_seam}
 use Rattle.std.proofs.lemmas.Bool.{cases_lt}
@@ -19,6 +19,8 @@ use Rattle.ciborium_ll_io.specs.declared.io.Read.{Ghosts as Reader}
 use Rattle.ciborium_ll_io.specs.declared.io.Write.{Ghosts as Writer}
 use Rattle.ciborium_ll_decoder.specs.declared.dec.Error.{Error}
 use Rattle.ciborium_ll_decoder.specs.declared.dec.Error.TheVariants as e
+use Rattle.ciborium_ll_grammar.specs.declared.spelling.Spelling.{Spelling}
+use Rattle.ciborium_ll_grammar.specs.declared.spelling.Spelling.TheVariants.{Shortest}
 use Rattle.ciborium_ll_grammar.specs.Title.{BeginsRefused}
 use Rattle.ciborium_ll_grammar.specs.Strings.{Kind, Text, kind_header}
 use Rattle.ciborium_ll_text.specs.Text.{IsCharacters, BeginsNoText}
@@ -39,16 +41,17 @@ use Rattle.ciborium_ll_text.proofs.Lists.{front_of, front_behind}
 use Rattle.ciborium_ll_text.proofs.FrontLaws.{no_text_behind}
 
 -- A text body that is no text is a fault.
-damage : (strict : Bool) (bytes : List ℕ) (marks : List Mark) (len start : ℕ) (read front more ahead behind : List ℕ)
+damage : (allowed : Spelling) (bytes : List ℕ) (marks : List Mark) (len start : ℕ)
+    (read front more ahead behind : List ℕ)
     → ahead ≡ read ++ behind → read ≡ front ++ more → IsCharacters front → length read ≤ len → IsNoText [] len read
-    → FirstFault strict bytes marks (BodyDue Text len start) ahead (Syntax start) (with_front marks Text len front)
+    → FirstFault allowed bytes marks (BodyDue Text len start) ahead (Syntax start) (with_front marks Text len front)
     (length read)
-damage strict bytes marks len start read front more ahead behind split e text within (inl whole) =
+damage allowed bytes marks len start read front more ahead behind split e text within (inl whole) =
     let taken : take len ahead ≡ read = front_of len ahead read behind split whole.0 in
     DamagedText front more (omega (arith, whole.0, ap length split, length-append {A = ℕ}))
     (λ u. whole.1 (subst IsCharacters taken u)) (taken ∙ e) text (omega (arith, ap length e, length-append {A = ℕ}))
     within
-damage strict bytes marks len start read front more ahead behind split e text within (inr begins) =
+damage allowed bytes marks len start read front more ahead behind split e text within (inr begins) =
     let more_behind = λ (z : List ℕ). ap (λ (v : List ℕ). v ++ z) e ∙ append_assoc front more z in
     elim (cases_lt (length ahead) len) [
       | inl cut ↦ CutDamagedText front (more ++ behind) cut
@@ -62,9 +65,9 @@ damage strict bytes marks len start read front more ahead behind split e text wi
           )
     ]
 
-module _ {R E W F : Type 0} {strict : Bool} (source : Reader R E) (sink : Writer W F) (count room : ℕ)
+module _ {R E W F : Type 0} {allowed : Spelling} (source : Reader R E) (sink : Writer W F) (count room : ℕ)
     (old : Sides R W) (due written : List ℕ) where
-  module _ (told : IsTold source sink strict old due written) where
+  module _ (told : IsTold source sink allowed old due written) where
     -- How far a copy came.
     pub record Came (bytes : List ℕ) (marks : List Mark) (now : Sides R W) : Type 0 where
       pub rest : List ℕ
@@ -80,11 +83,11 @@ module _ {R E W F : Type 0} {strict : Bool} (source : Reader R E) (sink : Writer
         search
 
     all_told : (new : Sides R W) → CopiesRun source sink count old new
-        → CopiesFront source sink strict count due written old.decoder new
+        → CopiesFront source sink allowed count due written old.decoder new
     all_told new all =
         let c = came all.copied in
-        let spelled = λ (on : strict ≡ true). all.strict (told.mode ∙ on) (told.none_waits on) in
-        let front : BeginsWithElements strict count due = search in
+        let spelled = λ (on : allowed ≡ Shortest). all.strict (told.mode ∙ on) (told.none_waits on) in
+        let front : BeginsWithElements allowed count due = search in
         record {
           front = front;
           output = c.output;
@@ -104,14 +107,14 @@ module _ {R E W F : Type 0} {strict : Bool} (source : Reader R E) (sink : Writer
       pub met : Strictly old.decoder (IsStrictSpelling bytes marks (due_title point))
           → Consumes (view source now.decoder) (view source new.decoder) read → (answer : Answer)
           → ((ahead behind : List ℕ) → view source now.decoder ≡ Some ahead → view source new.decoder ≡ Some behind
-          → ahead ≡ read ++ behind → FirstFault strict bytes marks point ahead answer out (length read))
-          → MeetsFault source sink strict count due written answer old.decoder new
+          → ahead ≡ read ++ behind → FirstFault allowed bytes marks point ahead answer out (length read))
+          → MeetsFault source sink allowed count due written answer old.decoder new
       met strictly consumed answer fault =
           let c = came copied in
           let gone = consumes_told _ _ c.rest read c.left consumed in
           let at = fault c.rest gone.0 c.left gone.1 gone.2 in
-          let spelled = λ (on : strict ≡ true). strictly (told.mode ∙ on) (told.none_waits on) in
-          let met : HasFault strict count due = search in
+          let spelled = λ (on : allowed ≡ Shortest). strictly (told.mode ∙ on) (told.none_waits on) in
+          let met : HasFault allowed count due = search in
           record {
             fault = met;
             answered = refl;
@@ -132,7 +135,7 @@ module _ {R E W F : Type 0} {strict : Bool} (source : Reader R E) (sink : Writer
     -- The copy met a title or a body that is not part of the grammar.
     abbrev MeetsSyntax : ℕ → Sides R W → Type 0
     MeetsSyntax at new = (start : ℕ) × (at ≡ old.decoder.offset + start)
-        × MeetsFault source sink strict count due written (Syntax start) old.decoder new
+        × MeetsFault source sink allowed count due written (Syntax start) old.decoder new
 
     -- If a title is due, no title of a body is under way.
     pub title_spelled : {error : Error E} {new : Sides R W} (stops : StopsAtTitle source sink count old error new)
@@ -162,7 +165,7 @@ module _ {R E W F : Type 0} {strict : Bool} (source : Reader R E) (sink : Writer
             met stops.reaches stops.copied new longer.title longer.offset _ output (title_spelled stops)
                 longer.bytes (Syntax (length stops.bytes)) (λ ahead behind a b split.
                 LongTitle longer.header behind stops.at_title longer.is_title
-                (subst (λ (b : Bool). IsTakenTitle b longer.title longer.header → ⊥)
+                (subst (λ (b : Spelling). IsTakenTitle b longer.title longer.header → ⊥)
                 (sym longer.strict ∙ (stops.copied.passed.mode ∙ told.mode)) longer.not_strict) split),
           )
         ]
@@ -175,7 +178,7 @@ module _ {R E W F : Type 0} {strict : Bool} (source : Reader R E) (sink : Writer
           met stops.reaches stops.copied new pulled.title pulled.offset _ (came stops.copied).output stops.strict
               pulled.bytes (Syntax (length stops.bytes)) (λ ahead behind a b split.
               OtherTitle stops.other.header behind pulled.is_title
-              (subst (λ (b : Bool). IsRefusedIn b stops.kind stops.other.header)
+              (subst (λ (b : Spelling). IsRefusedIn b stops.kind stops.other.header)
               (stops.copied.passed.mode ∙ told.mode) stops.other.refused) split),
         )
 
@@ -196,9 +199,9 @@ module _ {R E W F : Type 0} {strict : Bool} (source : Reader R E) (sink : Writer
           stops.stopped.ends.stops.0,
           met stops.reaches stops.copied new body.read body.passed.offset _ (front_output new stops) stops.strict
               body.passed.consumed (Syntax stops.start) (λ ahead behind a b split.
-              subst (λ (k : Kind). FirstFault strict stops.bytes stops.marks (BodyDue k stops.len stops.start) ahead
+              subst (λ (k : Kind). FirstFault allowed stops.bytes stops.marks (BodyDue k stops.len stops.start) ahead
               (Syntax stops.start) (with_front stops.marks k stops.len body.front) (length body.read))
-              (sym body.textual) (damage strict stops.bytes stops.marks stops.len stops.start body.read body.front
+              (sym body.textual) (damage allowed stops.bytes stops.marks stops.len stops.start body.read body.front
               body.more ahead behind split body.parts body.sound body.within body.no_text)),
         )
 
@@ -303,7 +306,7 @@ module _ {R E W F : Type 0} {strict : Bool} (source : Reader R E) (sink : Writer
 
     pub recode_anyhow : (new : Sides R W) (result : Result (Unit {0}) (RecodeError E F))
         → CopiesElements source sink count room old result new
-        → RecodesAnyhow source sink strict count room due written old.decoder result new
+        → RecodesAnyhow source sink allowed count room due written old.decoder result new
     recode_anyhow new (Ok unit) all = all_told new all.elements
     recode_anyhow new (Err (r.Read (e.Io fault))) (inl stops) =
         let fails = stops.fails in

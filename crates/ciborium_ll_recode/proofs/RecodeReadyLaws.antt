@@ -1,5 +1,5 @@
 -- A copy of elements if bytes are told and no side fails by itself: all elements are copied, or a fault stops the copy.
-use Rattle.std.proofs.Common.{◌≡◌, ℕ, Bool, ◌+◌, ◌^◌, ◌<◌, ◌≤◌, List, ◌++◌, length, min, max, Result, Ok, Err, IsOk}
+use Rattle.std.proofs.Common.{◌≡◌, ℕ, ◌+◌, ◌^◌, ◌<◌, ◌≤◌, List, ◌++◌, length, min, max, Result, Ok, Err, IsOk}
 use Rattle.std.proofs.Common.{◌↔◌, refl, sym, ap, subst, ◌∙◌, inl, inr, arith, length-append}
 use Rattle.std.proofs.lemmas.List.{length-take}
 use Rattle.ciborium_ll_io.specs.declared.io.Read.{Ghosts as Reader}
@@ -7,6 +7,7 @@ use Rattle.ciborium_ll_io.specs.declared.io.Write.{Ghosts as Writer}
 use Rattle.ciborium_ll_decoder.specs.declared.dec.Error.TheVariants as e
 use Rattle.ciborium_ll_decoder.specs.declared.copy.RecodeError.{RecodeError}
 use Rattle.ciborium_ll_decoder.specs.declared.copy.RecodeError.TheVariants as r
+use Rattle.ciborium_ll_grammar.specs.declared.spelling.Spelling.{Spelling}
 use Rattle.ciborium_ll_grammar.specs.Elements.{spelling}
 use Rattle.ciborium_ll_grammar.specs.Faults.{Short, FirstFault, CutTitle, CutBody, BeginsWithElements}
 use Rattle.ciborium_ll_decoder.specs.Decoding.{view, IsSteady}
@@ -21,12 +22,12 @@ use Rattle.ciborium_ll_recode.proofs.RoomLaws.{next_shorter, next_spelled}
 use Rattle.ciborium_ll_recode.proofs.RecodeAnyhowLaws.{came, met, title_spelled, front_output, in_body, PassesAnyhow}
 use Rattle.ciborium_ll_recode.proofs.RecodeAnyhowLaws.{recode_anyhow}
 
-module _ {R E W F : Type 0} {strict : Bool} (source : Reader R E) (sink : Writer W F) (count room : ℕ)
+module _ {R E W F : Type 0} {allowed : Spelling} (source : Reader R E) (sink : Writer W F) (count room : ℕ)
     (old : Sides R W) (due written : List ℕ) where
   -- A steady reader fails only if bytes are missing, whether or not the writer fails.
-  module _ (steady : IsSteady source old.decoder) (told : IsTold source sink strict old due written) where
+  module _ (steady : IsSteady source old.decoder) (told : IsTold source sink allowed old due written) where
     cut_title_told : (fault : E) (new : Sides R W) → StopsAtTitle source sink count old (e.Io fault) new
-        → MeetsFault source sink strict count due written Short old.decoder new
+        → MeetsFault source sink allowed count due written Short old.decoder new
     cut_title_told fault new stops =
         let cut = stops.fails.steady (stops.copied.passed.steady steady) in
         let read = stops.fails.read in
@@ -35,11 +36,11 @@ module _ {R E W F : Type 0} {strict : Bool} (source : Reader R E) (sink : Writer
         (λ ahead behind a b split.
         let ends = rw a at cut.1 in
         let first : min 1 (length ahead) ≡ length read = omega (arith, ap length ends.1, length-take 1 ahead) in
-        subst (λ (n : ℕ). FirstFault strict stops.bytes stops.marks stops.point ahead Short (spelling stops.marks) n)
+        subst (λ (n : ℕ). FirstFault allowed stops.bytes stops.marks stops.point ahead Short (spelling stops.marks) n)
         first (CutTitle stops.at_title ends.0))
 
     cut_body_told : (fault : E) (new : Sides R W) → StopsInBody source sink count room old (e.Io fault) new
-        → MeetsFault source sink strict count due written Short old.decoder new
+        → MeetsFault source sink allowed count due written Short old.decoder new
     cut_body_told fault new stops =
         let ends = stops.stopped.ends in
         let fails = ends.stops.1 in
@@ -57,11 +58,11 @@ module _ {R E W F : Type 0} {strict : Bool} (source : Reader R E) (sink : Writer
         z.5 z.6 (omega (arith, ap length split, length-append {A = ℕ})))
 
     pub short_told : (fault : E) (new : Sides R W) → StopsCopy source sink count room old (r.Read (e.Io fault)) new
-        → MeetsFault source sink strict count due written Short old.decoder new
+        → MeetsFault source sink allowed count due written Short old.decoder new
     short_told fault new (inl stops) = cut_title_told fault new stops
     short_told fault new (inr stops) = cut_body_told fault new stops
 
-  module _ (ready : IsReady source sink strict count room old due written) where
+  module _ (ready : IsReady source sink allowed count room old due written) where
     -- The offset fits all reads, so no read passes it.
     offset_fits : (new : Sides R W) → PassesAnyhow source sink count room old due written ready.told new → ⊥
     offset_fits new passes =
@@ -85,12 +86,12 @@ module _ {R E W F : Type 0} {strict : Bool} (source : Reader R E) (sink : Writer
 
     anyhow : (new : Sides R W) (result : Result (Unit {0}) (RecodeError E F))
         → CopiesElements source sink count room old result new
-        → RecodesAnyhow source sink strict count room due written old.decoder result new
+        → RecodesAnyhow source sink allowed count room due written old.decoder result new
     anyhow new result all = recode_anyhow source sink count room old due written ready.told new result all
 
     pub recode_told : (new : Sides R W) (result : Result (Unit {0}) (RecodeError E F))
         → CopiesElements source sink count room old result new
-        → RecodesTold source sink strict count due written old.decoder result new
+        → RecodesTold source sink allowed count due written old.decoder result new
     recode_told new (Ok unit) all = anyhow new (Ok unit) all
     recode_told new (Err (r.Read (e.Io fault))) stops = short_told ready.steady ready.told fault new stops
     recode_told new (Err (r.Read (e.Syntax at))) stops = anyhow new (Err (r.Read (e.Syntax at))) stops
@@ -100,18 +101,18 @@ module _ {R E W F : Type 0} {strict : Bool} (source : Reader R E) (sink : Writer
     recode_told new (Err (r.Write fault)) stops = absurd (writer_fits new stops)
 
     exactly_told : (new : Sides R W) (result : Result (Unit {0}) (RecodeError E F))
-        → RecodesTold source sink strict count due written old.decoder result new
-        → IsOk result ↔ BeginsWithElements strict count due
+        → RecodesTold source sink allowed count due written old.decoder result new
+        → IsOk result ↔ BeginsWithElements allowed count due
     exactly_told new (Ok unit) told = (λ ok. told.front, λ front. refl)
     exactly_told new (Err (r.Read (e.Io fault))) told =
-        (λ ok. absurd cc, λ front. absurd (no_fault strict count due front told.fault))
+        (λ ok. absurd cc, λ front. absurd (no_fault allowed count due front told.fault))
     exactly_told new (Err (r.Read (e.Syntax at))) told =
-        (λ ok. absurd cc, λ front. absurd (no_fault strict count due front told.2.fault))
+        (λ ok. absurd cc, λ front. absurd (no_fault allowed count due front told.2.fault))
     exactly_told new (Err (r.Read e.TooLong)) told = absurd told
     exactly_told new (Err (r.Read e.Waiting)) told = absurd told
     exactly_told new (Err (r.Write fault)) told = absurd told
 
     pub recode_exactly : (new : Sides R W) (result : Result (Unit {0}) (RecodeError E F))
         → CopiesElements source sink count room old result new
-        → IsOk result ↔ BeginsWithElements strict count due
+        → IsOk result ↔ BeginsWithElements allowed count due
     recode_exactly new result copied = exactly_told new result (recode_told new result copied)

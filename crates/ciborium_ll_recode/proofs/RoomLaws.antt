@@ -1,9 +1,10 @@
 -- A copy of elements writes no more bytes than were read, and no more than the spelling of the elements at the
 -- beginning.
 use Rattle.std.proofs.Common.{◌≡◌, ℕ, ◌+◌, ◌≤◌, List, [], ◌∷◌, ◌++◌, length, take, drop, min, Some, None, sym, ap}
-use Rattle.std.proofs.Common.{false, subst, ◌∙◌, inl, inr, arith, append_assoc, append-nil, length-append}
+use Rattle.std.proofs.Common.{subst, ◌∙◌, inl, inr, arith, append_assoc, append-nil, length-append}
 use Rattle.std.proofs.lemmas.Bool.{cases_lt}
 use Rattle.std.proofs.lemmas.List.{length-take-le, take-append-drop}
+use Rattle.ciborium_ll_grammar.specs.declared.spelling.Spelling.TheVariants.{Any}
 use Rattle.ciborium_ll_grammar.specs.Title.{IsTitle, title_len}
 use Rattle.ciborium_ll_grammar.specs.Strings.{Kind, kind_header, IsString, AreStrings, none, more, IsWritable}
 use Rattle.ciborium_ll_grammar.specs.Strings.IsString.{definite, indefinite}
@@ -228,7 +229,7 @@ next_shorter {before = before} {read = read} next_write =
 
 -- If the elements are at the beginning, the bytes fit in the spelling of the elements.
 pub next_spelled : {count room : ℕ} {before read whole next due : List ℕ} (rest : List ℕ)
-    → NextWrite count room before read whole next → (front : BeginsWithElements false count due)
+    → NextWrite count room before read whole next → (front : BeginsWithElements Any count due)
     → due ≡ (before ++ read) ++ rest
     → length whole + length next ≤ length (spelling front.marks)
 next_spelled {before = before} {read = read} rest next_write front is =

@@ -1,11 +1,12 @@
 -- The copy of a string's segments, after its open.
-use Rattle.std.proofs.Common.{◌≡◌, ℕ, List, [], ◌∷◌, ◌++◌, length, Bool, Option, Some, None, Result, Ok, Err, refl, sym}
+use Rattle.std.proofs.Common.{◌≡◌, ℕ, List, [], ◌∷◌, ◌++◌, length, Option, Some, None, Result, Ok, Err, refl, sym}
 use Rattle.std.proofs.Common.{ap, subst, ◌∙◌, inl, inr, arith, append_assoc, length-append, ◌≤◌, ◌+◌}
 use Rattle.std.proofs.KnownBytes.{Appends-nil}
 use Rattle.ciborium_ll_io.specs.declared.io.Read.{Ghosts as Reader}
 use Rattle.ciborium_ll_io.specs.declared.io.Write.{Ghosts as Writer}
 use Rattle.ciborium_ll_io.specs.Writes.{WritesAll}
 use Rattle.ciborium_ll_io.proofs.WriteLaws.{Shrinks-zero}
+use Rattle.ciborium_ll_grammar.specs.declared.spelling.Spelling.{Spelling}
 use Rattle.ciborium_ll_grammar.specs.declared.hdr.Header.TheVariants as h
 use Rattle.ciborium_ll_grammar.specs.Title.{shortest_title}
 use Rattle.ciborium_ll_grammar.specs.Strings.{Kind, kind_header}
@@ -23,7 +24,7 @@ use Rattle.ciborium_ll_decoder.specs.declared.seg.Body.{Body}
 use Rattle.ciborium_ll_decoder.specs.declared.seg.Progress.{Progress}
 use Rattle.ciborium_ll_decoder.specs.declared.seg.Progress.TheVariants as p
 use Rattle.ciborium_ll_decoder.specs.BodyCopies.{BodyWritten, CopiesBody, Sides, sides}
-use Rattle.ciborium_ll_decoder.specs.Decoding.{IsSteady, offset_limit, strict_of}
+use Rattle.ciborium_ll_decoder.specs.Decoding.{IsSteady, offset_limit, spelling_of}
 use Rattle.ciborium_ll_decoder.specs.Segments.{AdvancesTo}
 use Rattle.ciborium_ll_decoder.proofs.DecodingLaws.{ReadsPast-then}
 use Rattle.ciborium_ll_decoder.proofs.NestLaws.{alone_bytes, title_some}
@@ -52,11 +53,11 @@ module _ {R E W F : Type 0} (source : Reader R E) (sink : Writer W F) (k : Kind)
     abbrev pub Leads : Result (Option Body) (Error E) → Progress → Decoder R → Type 0
     Leads result after new = AdvancesAmong source k so_far.bodies opened.decoder now.decoder result after new
 
-    pub leads : (strict : Bool) → strict ≡ strict_of opened.decoder → (result : Result (Option Body) (Error E))
-        (after : Progress) (new : Decoder R) → AdvancesTo source k strict progress now.decoder result after new
+    pub leads : (allowed : Spelling) → allowed ≡ spelling_of opened.decoder → (result : Result (Option Body) (Error E))
+        (after : Progress) (new : Decoder R) → AdvancesTo source k allowed progress now.decoder result after new
         → (IsSteady source now.decoder → IsSteady source new) → Leads result after new
-    leads strict mode result after new advances steady = advances_among source k so_far.bodies opened.decoder
-        now.decoder strict result progress after new mode so_far.so_far advances steady
+    leads allowed mode result after new advances steady = advances_among source k so_far.bodies opened.decoder
+        now.decoder allowed result progress after new mode so_far.so_far advances steady
 
     -- ---- after whole elements
 
@@ -91,7 +92,7 @@ module _ {R E W F : Type 0} (source : Reader R E) (sink : Writer W F) (k : Kind)
         | inl refused ↦ title_stops source sink room (stands_inside all.among) tt refl new (e.Syntax at) refused.0
         | inr other ↦ (
             let stands = stands_inside all.among in
-            let refused = other_inside source k (strict_of opened.decoder) all.left all.between at after new
+            let refused = other_inside source k (spelling_of opened.decoder) all.left all.between at after new
             all.among.passed.mode (some_open k all.left _ _ all.among.within) other in
             inr (inl (search))
             )

@@ -1,6 +1,8 @@
 -- From elements and their marks to `Shortens`: the marks' spelling is written.
-use Rattle.std.proofs.Common.{◌≡◌, ℕ, suc, ◌+◌, ◌*◌, ◌<◌, ◌≤◌, ◌⊎◌, inl, inr, Bool, true, false, List, [], ◌∷◌, ◌++◌}
+use Rattle.std.proofs.Common.{◌≡◌, ℕ, suc, ◌+◌, ◌*◌, ◌<◌, ◌≤◌, ◌⊎◌, inl, inr, List, [], ◌∷◌, ◌++◌}
 use Rattle.std.proofs.Common.{length, Some, None, refl, ap, ◌∙◌, arith, append-nil, append_assoc}
+use Rattle.ciborium_ll_grammar.specs.declared.spelling.Spelling.{Spelling}
+use Rattle.ciborium_ll_grammar.specs.declared.spelling.Spelling.TheVariants.{Any, Shortest}
 use Rattle.ciborium_ll_grammar.specs.declared.hdr.Header.{Header}
 use Rattle.ciborium_ll_grammar.specs.declared.hdr.Header.TheVariants as h
 use Rattle.ciborium_ll_grammar.specs.declared.hdr.Float.TheVariants as f
@@ -31,25 +33,25 @@ use Rattle.ciborium_ll_recode.proofs.StrictRunLaws.{titles}
 -- ---- titles that begin no string
 
 -- The copy of a title of a number is the number's shortest title.
-numbered_shortens : (b : Bool) (m : Major) (n : ℕ) (title : List ℕ) → HasNumber m n title
-    → (major_code m < 2) ⊎ ((3 < major_code m) × (major_code m < 7)) → (b ≡ true → title ≡ shortest_numbered m n)
+numbered_shortens : (b : Spelling) (m : Major) (n : ℕ) (title : List ℕ) → HasNumber m n title
+    → (major_code m < 2) ⊎ ((3 < major_code m) × (major_code m < 7)) → (b ≡ Shortest → title ≡ shortest_numbered m n)
     → ShortensElement b title (shortest_numbered m n)
 numbered_shortens b m n title z major least =
-    number major (taken_title b m n title z least) (least_title true m n (size_below z.0 n z.1))
+    number major (taken_title b m n title z least) (least_title Shortest m n (size_below z.0 n z.1))
 
 -- A simple value that a strict decoder takes is below 24, or at least 32.
 meant_simple : (n : ℕ) → (IsSmallSimple (h.Simple n) → ⊥) → (n < 24) ⊎ (32 ≤ n)
 meant_simple n small = grind arith
 
 -- The copy of the title of a float is the same title.
-float_shortens : (b : Bool) (s : Size) (n : ℕ) {title : List ℕ} → n < size_limit s
+float_shortens : (b : Spelling) (s : Size) (n : ℕ) {title : List ℕ} → n < size_limit s
     → 2 < length (numbered_title Other s n) → title ≡ numbered_title Other s n
     → ShortensElement b title (numbered_title Other s n)
 float_shortens b s n below long is =
-    rw is (float long (taken_title false Other n (numbered_title Other s n) (s, below, refl) (λ on. absurd cc)))
+    rw is (float long (taken_title Any Other n (numbered_title Other s n) (s, below, refl) (λ on. absurd cc)))
 
-plain_shortens : (b : Bool) (header : Header) (title : List ℕ) → IsTitle title header → IsTitleOf header title
-    → IsPlain header → (b ≡ true → title ≡ shortest_title header) → (b ≡ true → IsSmallSimple header → ⊥)
+plain_shortens : (b : Spelling) (header : Header) (title : List ℕ) → IsTitle title header → IsTitleOf header title
+    → IsPlain header → (b ≡ Shortest → title ≡ shortest_title header) → (b ≡ Shortest → IsSmallSimple header → ⊥)
     → ShortensElement b title (shortest_title header)
 plain_shortens b (h.Positive n) t p z q s m = numbered_shortens b Unsigned n t z (inl (omega arith)) s
 plain_shortens b (h.Negative n) t p z q s m = numbered_shortens b Negative n t z (inl (omega arith)) s
@@ -61,7 +63,7 @@ plain_shortens b (h.Map None) t p z q s m = rw z (alone (inr (inl refl)))
 plain_shortens b h.Break t p z q s m = rw z (alone (inr (inr refl)))
 plain_shortens b (h.Simple n) t p z q s m =
     simple z.1 (λ on. meant_simple n (m on)) (taken_title b Other n t z.0 s)
-    (least_title true Other n (size_below z.0.0 n z.0.1))
+    (least_title Shortest Other n (size_below z.0.0 n z.0.1))
 plain_shortens b (h.Float (f.Half n)) t p z q s m =
     float_shortens b Two n (title_in_range t (h.Float (f.Half n)) p) (omega arith) z
 plain_shortens b (h.Float (f.Single n)) t p z q s m =
@@ -81,14 +83,14 @@ string_code Text = 3
 empty_body : (k : Kind) → IsBody (string_code k) []
 empty_body k = grind (arith, bytes, text)
 
-titled_by : (b : Bool) (m : Major) (title body : List ℕ) → HasNumber m (length body) title
-    → (b ≡ true → title ≡ shortest_numbered m (length body)) → IsBody (major_code m) body
+titled_by : (b : Spelling) (m : Major) (title body : List ℕ) → HasNumber m (length body) title
+    → (b ≡ Shortest → title ≡ shortest_numbered m (length body)) → IsBody (major_code m) body
     → ShortensString b (major_code m) (title ++ body) (shortest_numbered m (length body) ++ body)
 titled_by b m title body z least sound = titled (taken_title b m (length body) title z least)
-    (least_title true m (length body) (size_below z.0 (length body) z.1)) sound
+    (least_title Shortest m (length body) (size_below z.0 (length body) z.1)) sound
 
-string_shortens : (b : Bool) (k : Kind) (title body : List ℕ) → IsTitle title (kind_header k (Some (length body)))
-    → (b ≡ true → IsStrictTitle title (kind_header k (Some (length body)))) → IsWritable k body
+string_shortens : (b : Spelling) (k : Kind) (title body : List ℕ) → IsTitle title (kind_header k (Some (length body)))
+    → (b ≡ Shortest → IsStrictTitle title (kind_header k (Some (length body)))) → IsWritable k body
     → ShortensString b (string_code k) (title ++ body) (body_spelling k body)
 string_shortens b Bytes t x p s sound =
     titled_by b ByteString t x (title_of t (h.Bytes (Some (length x))) p) (λ on. (s on).shortest) bytes
@@ -110,7 +112,7 @@ pub parts_spelled : (k : Kind) (bs : List (List ℕ))
 parts_spelled k bs = open_spelled k bs
     ∙ ap (λ (z : List ℕ). z ++ (spelling (pieces k bs) ++ 0xff ∷ [])) (open_shortest k)
 
-parts_shortened : (b : Bool) (k : Kind) (title strings : List ℕ) (bs : List (List ℕ))
+parts_shortened : (b : Spelling) (k : Kind) (title strings : List ℕ) (bs : List (List ℕ))
     → IsTitle title (kind_header k None) → ShortensStrings b (string_code k) strings (spelling (pieces k bs))
     → ShortensElement b (title ++ (strings ++ 0xff ∷ [])) (spelling (open_marks k bs))
 parts_shortened b k title strings bs p within =
@@ -120,69 +122,69 @@ parts_shortened b k title strings bs p within =
 
 mutual
   any_one : (k : Kind) (w : List ℕ) (bs : List (List ℕ)) → IsString k w bs → AreWritable k bs → (rest written : List ℕ)
-      → ShortensStrings false (string_code k) rest written
-      → ShortensStrings false (string_code k) (w ++ rest) (spelling (pieces k bs) ++ written)
+      → ShortensStrings Any (string_code k) rest written
+      → ShortensStrings Any (string_code k) (w ++ rest) (spelling (pieces k bs) ++ written)
   any_one k w bs (definite {title = t} {body = b} p) sound rest written others =
-      rw append-nil (definite_more (string_shortens false k t b p (λ on. absurd cc) sound.0) others)
+      rw append-nil (definite_more (string_shortens Any k t b p (λ on. absurd cc) sound.0) others)
   any_one k w bs (indefinite {title = t} {strings = x} {bodies = cs} p q) sound rest written others =
       rw (open_title k t p) (open_more refl (any_all k x cs q sound) others)
 
   any_all : (k : Kind) (w : List ℕ) (bs : List (List ℕ)) → AreStrings k w bs → AreWritable k bs
-      → ShortensStrings false (string_code k) w (spelling (pieces k bs))
+      → ShortensStrings Any (string_code k) w (spelling (pieces k bs))
   any_all k w bs none sound = no_more
   any_all k w bs (more {first = x} {rest = y} {bodies = ds} {others = es} s ss) sound =
       rw (pieces-append, spelling-append) (any_one k x ds s (AreWritable-left k ds es sound) y _
       (any_all k y es ss (AreWritable-right k ds es sound)))
 
-any_element : (w : List ℕ) (ms : List Mark) → IsElement w ms → ShortensElement false w (spelling ms)
+any_element : (w : List ℕ) (ms : List Mark) → IsElement w ms → ShortensElement Any w (spelling ms)
 any_element w ms (plain header p q) =
-    rw append-nil (plain_shortens false header w p (title_of w header p) q (λ on. absurd cc) (λ on. absurd cc))
+    rw append-nil (plain_shortens Any header w p (title_of w header p) q (λ on. absurd cc) (λ on. absurd cc))
 any_element w ms (string k (definite {title = t} {body = b} p) sound) =
-    rw append-nil (whole (string_shortens false k t b p (λ on. absurd cc) sound.0))
+    rw append-nil (whole (string_shortens Any k t b p (λ on. absurd cc) sound.0))
 any_element w ms (string k (indefinite {title = t} {strings = x} {bodies = bs} p q) sound) =
-    parts_shortened false k t x bs p (any_all k x bs q sound)
+    parts_shortened Any k t x bs p (any_all k x bs q sound)
 
 -- One more element is copied.
-next_shortened : (b : Bool) (m : ℕ) (x y rest : List ℕ) (ns os : List Mark) → ShortensElement b x (spelling ns)
+next_shortened : (b : Spelling) (m : ℕ) (x y rest : List ℕ) (ns os : List Mark) → ShortensElement b x (spelling ns)
     → Shortens b m (y ++ rest) (spelling os) rest → Shortens b (suc m) ((x ++ y) ++ rest) (spelling (ns ++ os)) rest
 next_shortened b m x y rest ns os e others = rw (append_assoc x y rest, spelling-append) (shortens_next e others)
 
 any_run : (n : ℕ) (w : List ℕ) (ms : List Mark) → IsRun n w ms → (rest : List ℕ)
-    → Shortens false n (w ++ rest) (spelling ms) rest
+    → Shortens Any n (w ++ rest) (spelling ms) rest
 any_run n w ms done rest = shortens_done
 any_run n w ms (next {count = m} {first = x} {rest = y} {marks = ns} {others = os} e run) rest =
-    next_shortened false m x y rest ns os (any_element x ns e) (any_run m y os run rest)
+    next_shortened Any m x y rest ns os (any_element x ns e) (any_run m y os run rest)
 
 -- ---- elements in their shortest spelling
 
 flat_strings : (k : Kind) (w : List ℕ) (bs : List (List ℕ)) → AreFlat k w bs → AreWritable k bs
-    → ShortensStrings true (string_code k) w (spelling (pieces k bs))
+    → ShortensStrings Shortest (string_code k) w (spelling (pieces k bs))
 flat_strings k w bs no_flat sound = no_more
 flat_strings k w bs (more_flat {title = t} {body = b} {rest = y} {bodies = es} p s others) sound =
-    definite_more (string_shortens true k t b p (λ on. s) sound.0) (flat_strings k y es others sound.1)
+    definite_more (string_shortens Shortest k t b p (λ on. s) sound.0) (flat_strings k y es others sound.1)
 
-strict_element : (w : List ℕ) (ms : List Mark) → IsStrictElement w ms → ShortensElement true w (spelling ms)
+strict_element : (w : List ℕ) (ms : List Mark) → IsStrictElement w ms → ShortensElement Shortest w (spelling ms)
 strict_element w ms (strict_plain header p s q) =
-    rw append-nil (plain_shortens true header w p (title_of w header p) q (λ on. s.shortest) (λ on. s.meant))
+    rw append-nil (plain_shortens Shortest header w p (title_of w header p) q (λ on. s.shortest) (λ on. s.meant))
 strict_element w ms (strict_whole {title = t} {body = b} k p s sound) =
-    rw append-nil (whole (string_shortens true k t b p (λ on. s) sound))
+    rw append-nil (whole (string_shortens Shortest k t b p (λ on. s) sound))
 strict_element w ms (strict_parts {title = t} {strings = x} {bodies = bs} k p within sound) =
-    parts_shortened true k t x bs p (flat_strings k x bs within sound)
+    parts_shortened Shortest k t x bs p (flat_strings k x bs within sound)
 
 strict_elements : (n : ℕ) (w : List ℕ) (ms : List Mark) → AreStrictElements n w ms → (rest : List ℕ)
-    → Shortens true n (w ++ rest) (spelling ms) rest
+    → Shortens Shortest n (w ++ rest) (spelling ms) rest
 strict_elements n w ms strict_done rest = shortens_done
 strict_elements n w ms (strict_next {count = m} {first = x} {rest = y} {marks = ns} {others = os} e run) rest =
-    next_shortened true m x y rest ns os (strict_element x ns e) (strict_elements m y os run rest)
+    next_shortened Shortest m x y rest ns os (strict_element x ns e) (strict_elements m y os run rest)
 
 -- ---- elements at the beginning of bytes
 
-pub front_shortened : (strict : Bool) (count : ℕ) (due : List ℕ) (front : BeginsWithElements strict count due)
-    → Shortens strict count due (spelling front.marks) front.rest
-front_shortened false count due front = rw front.is (any_run count front.elements front.marks front.run front.rest)
-front_shortened true count due front =
+pub front_shortened : (allowed : Spelling) (count : ℕ) (due : List ℕ) (front : BeginsWithElements allowed count due)
+    → Shortens allowed count due (spelling front.marks) front.rest
+front_shortened Any count due front = rw front.is (any_run count front.elements front.marks front.run front.rest)
+front_shortened Shortest count due front =
     let spelled = front.spelled refl in
     let same = spelled_alone front.elements front.marks spelled in
-    let strict : IsStrictRun count front.elements front.marks = search in
-    let elements = (titles count front.elements front.marks).0 strict in
+    let allowed : IsStrictRun count front.elements front.marks = search in
+    let elements = (titles count front.elements front.marks).0 allowed in
     rw front.is (strict_elements count front.elements front.marks elements front.rest)

@@ -1,7 +1,9 @@
 -- From `Shortens` to elements and their marks: the bytes that are written are the marks' spelling.
-use Rattle.std.proofs.Common.{◌≡◌, ℕ, zero, suc, ◌+◌, ◌<◌, ◌≤◌, ◌⊎◌, ◌↔◌, inl, inr, Bool, true, false, List, [], ◌∷◌}
+use Rattle.std.proofs.Common.{◌≡◌, ℕ, zero, suc, ◌+◌, ◌<◌, ◌≤◌, ◌⊎◌, ◌↔◌, inl, inr, List, [], ◌∷◌}
 use Rattle.std.proofs.Common.{◌++◌, length, Some, None, refl, sym, ap, ◌∙◌, arith, append-nil, append_assoc}
 use Rattle.std.proofs.Common.{length-append}
+use Rattle.ciborium_ll_grammar.specs.declared.spelling.Spelling.{Spelling}
+use Rattle.ciborium_ll_grammar.specs.declared.spelling.Spelling.TheVariants.{Any, Shortest}
 use Rattle.ciborium_ll_grammar.specs.declared.hdr.Header.{Header}
 use Rattle.ciborium_ll_grammar.specs.declared.hdr.Header.TheVariants as h
 use Rattle.ciborium_ll_grammar.specs.declared.hdr.Float.TheVariants as f
@@ -31,13 +33,13 @@ joined : {x y : List ℕ} (ms ns : List Mark) → x ≡ spelling ms → y ≡ sp
 joined ms ns p q = rw (p, q, spelling-append) refl
 
 -- A title of the major type of a kind is a title of the header of that kind.
-kind_title : (b : Bool) (k : Kind) (n : ℕ) (t : List ℕ) → IsNumberTitle b (string_code k) n t
+kind_title : (b : Spelling) (k : Kind) (n : ℕ) (t : List ℕ) → IsNumberTitle b (string_code k) n t
     → IsTitle t (kind_header k (Some n))
 kind_title b Bytes n t p = let z = has_number b ByteString n t p in rw z.2 (numbered ByteString z.0 n z.1)
 kind_title b Text n t p = let z = has_number b TextString n t p in rw z.2 (numbered TextString z.0 n z.1)
 
 -- A title with the fewest bytes is the shortest title of the header.
-kind_fewest : (k : Kind) (n : ℕ) (t : List ℕ) → IsNumberTitle true (string_code k) n t
+kind_fewest : (k : Kind) (n : ℕ) (t : List ℕ) → IsNumberTitle Shortest (string_code k) n t
     → t ≡ shortest_title (kind_header k (Some n))
 kind_fewest Bytes n t p = fewest_is ByteString n t p
 kind_fewest Text n t p = fewest_is TextString n t p
@@ -46,18 +48,18 @@ body_writable : (k : Kind) (body : List ℕ) → IsBody (string_code k) body →
 body_writable k body is = grind arith
 
 -- The strings after an open, their bodies, and the bytes that are written for them.
-record StringsWithin (b : Bool) (k : Kind) (w written : List ℕ) : Type 0 where
+record StringsWithin (b : Spelling) (k : Kind) (w written : List ℕ) : Type 0 where
   bodies : List (List ℕ)
   are : AreStrings k w bodies
   sound : AreWritable k bodies
   spelled : written ≡ spelling (pieces k bodies)
-  same : b ≡ true → w ≡ spelling (pieces k bodies)
+  same : b ≡ Shortest → w ≡ spelling (pieces k bodies)
 
 open_is_title : (k : Kind) → IsTitle (open_byte k ∷ []) (kind_header k None)
 open_is_title Bytes = alone_title ByteString (h.Bytes None) refl
 open_is_title Text = alone_title TextString (h.Text None) refl
 
-within : (b : Bool) (k : Kind) (w written : List ℕ) → ShortensStrings b (string_code k) w written
+within : (b : Spelling) (k : Kind) (w written : List ℕ) → ShortensStrings b (string_code k) w written
     → StringsWithin b k w written
 within b k w written no_more =
     record { bodies = []; are = none; sound = tt; spelled = refl; same = λ on. refl }
@@ -86,22 +88,22 @@ within b k w written (open_more {within = x} {rest = y} {written = u} {more = v}
 which_kind : (major : ℕ) (body : List ℕ) → IsBody major body → (k : Kind) × (major ≡ string_code k)
 which_kind major body is = grind arith
 
-string_kind : {b : Bool} {major : ℕ} {w written : List ℕ} → ShortensString b major w written
+string_kind : {b : Spelling} {major : ℕ} {w written : List ℕ} → ShortensString b major w written
     → (k : Kind) × (major ≡ string_code k)
 string_kind (titled {body = x} p q y) = which_kind _ x y
 
 -- ---- elements
 
 -- An element, its marks, and the bytes that are written for it.
-record MarkedElement (b : Bool) (w written : List ℕ) : Type 0 where
+record MarkedElement (b : Spelling) (w written : List ℕ) : Type 0 where
   marks : List Mark
   element : IsElement w marks
   spelled : written ≡ spelling marks
-  strict : b ≡ true → IsStrictSpelling w marks []
+  strict : b ≡ Shortest → IsStrictSpelling w marks []
 
-plain_marked : (b : Bool) (header : Header) (w written : List ℕ) → IsTitle w header → IsPlain header
-    → written ≡ shortest_title header → (b ≡ true → w ≡ shortest_title header)
-    → (b ≡ true → IsSmallSimple header → ⊥) → MarkedElement b w written
+plain_marked : (b : Spelling) (header : Header) (w written : List ℕ) → IsTitle w header → IsPlain header
+    → written ≡ shortest_title header → (b ≡ Shortest → w ≡ shortest_title header)
+    → (b ≡ Shortest → IsSmallSimple header → ⊥) → MarkedElement b w written
 plain_marked b header w written p q is same meant =
     record {
       marks = Plain header ∷ [];
@@ -117,17 +119,17 @@ counts : (m : Major) → (major_code m < 2) ⊎ ((3 < major_code m) × (major_co
     × (IsSmallSimple (numbered_header m Small n) → ⊥)
 counts m which n s = grind arith
 
-number_marked : (b : Bool) (m : Major) {n : ℕ} {w written : List ℕ}
+number_marked : (b : Spelling) (m : Major) {n : ℕ} {w written : List ℕ}
     → (major_code m < 2) ⊎ ((3 < major_code m) × (major_code m < 7)) → IsNumberTitle b (major_code m) n w
-    → IsNumberTitle true (major_code m) n written → MarkedElement b w written
+    → IsNumberTitle Shortest (major_code m) n written → MarkedElement b w written
 number_marked b m {n} {w} {written} which p least =
     let z = has_number b m n w p in
     let c = counts m which n z.0 in
     plain_marked b (numbered_header m Small n) w written (rw (z.2, ← c.0) (numbered m z.0 n z.1)) c.1
     (fewest_is m n written least ∙ c.2) (λ on. fewest_is m n w (rw on at p) ∙ c.2) (λ on. c.3)
 
-by_major : (b : Bool) (major n : ℕ) (w written : List ℕ) → (major < 2) ⊎ ((3 < major) × (major < 7))
-    → IsNumberTitle b major n w → IsNumberTitle true major n written → MarkedElement b w written
+by_major : (b : Spelling) (major n : ℕ) (w written : List ℕ) → (major < 2) ⊎ ((3 < major) × (major < 7))
+    → IsNumberTitle b major n w → IsNumberTitle Shortest major n written → MarkedElement b w written
 by_major b zero n w written c p q = number_marked b Unsigned c p q
 by_major b (suc zero) n w written c p q = number_marked b Negative c p q
 by_major b (suc (suc zero)) n w written c p q = absurd (omega arith)
@@ -146,11 +148,11 @@ simple_title Four n w l e short = absurd (omega (arith, ap length e, short))
 simple_title Eight n w l e short = absurd (omega (arith, ap length e, short))
 
 -- A title that is the shortest one of its header is written as it was.
-own_marked : (b : Bool) (header : Header) (w : List ℕ) → w ≡ shortest_title header
+own_marked : (b : Spelling) (header : Header) (w : List ℕ) → w ≡ shortest_title header
     → IsTitle (shortest_title header) header → IsPlain header → (IsSmallSimple header → ⊥) → MarkedElement b w w
 own_marked b header w is p q meant = plain_marked b header w w (rw is p) q is (λ on. is) (λ on. meant)
 
-float_marked : (b : Bool) (s : Size) (n : ℕ) (w : List ℕ) → n < size_limit s → w ≡ numbered_title Other s n
+float_marked : (b : Spelling) (s : Size) (n : ℕ) (w : List ℕ) → n < size_limit s → w ≡ numbered_title Other s n
     → 2 < length w → MarkedElement b w w
 float_marked b Small n w l e long = absurd (omega (arith, ap length e, long))
 float_marked b One n w l e long = absurd (omega (arith, ap length e, long))
@@ -158,7 +160,7 @@ float_marked b Two n w l e long = own_marked b (h.Float (f.Half n)) w e (numbere
 float_marked b Four n w l e long = own_marked b (h.Float (f.Single n)) w e (numbered Other Four n l) tt (λ x. x)
 float_marked b Eight n w l e long = own_marked b (h.Float (f.Double n)) w e (numbered Other Eight n l) tt (λ x. x)
 
-alone_marked : (b : Bool) (byte : ℕ) → (byte ≡ 0x9f) ⊎ (byte ≡ 0xbf) ⊎ (byte ≡ 0xff)
+alone_marked : (b : Spelling) (byte : ℕ) → (byte ≡ 0x9f) ⊎ (byte ≡ 0xbf) ⊎ (byte ≡ 0xff)
     → MarkedElement b (byte ∷ []) (byte ∷ [])
 alone_marked b byte (inl e) =
     rw e (own_marked b (h.Array None) (0x9f ∷ []) refl (alone_title Array (h.Array None) refl) tt (λ x. x))
@@ -167,7 +169,7 @@ alone_marked b byte (inr (inl e)) =
 alone_marked b byte (inr (inr e)) =
     rw e (own_marked b h.Break (0xff ∷ []) refl (alone_title Other h.Break refl) tt (λ x. x))
 
-whole_marked : (b : Bool) (k : Kind) (w written : List ℕ) → ShortensString b (string_code k) w written
+whole_marked : (b : Spelling) (k : Kind) (w written : List ℕ) → ShortensString b (string_code k) w written
     → MarkedElement b w written
 whole_marked b k w written (titled {title = t} {shortest = s} {body = x} p q sound) = record {
   marks = Whole k x ∷ [];
@@ -179,7 +181,7 @@ whole_marked b k w written (titled {title = t} {shortest = s} {body = x} p q sou
   };
 }
 
-parts_marked : (b : Bool) (k : Kind) (strings written : List ℕ) → ShortensStrings b (string_code k) strings written
+parts_marked : (b : Spelling) (k : Kind) (strings written : List ℕ) → ShortensStrings b (string_code k) strings written
     → MarkedElement b (open_byte k ∷ (strings ++ 0xff ∷ [])) (open_byte k ∷ (written ++ 0xff ∷ []))
 parts_marked b k strings written s =
     let all = within b k strings written s in
@@ -193,7 +195,7 @@ parts_marked b k strings written s =
       };
     }
 
-element_marked : (b : Bool) (w written : List ℕ) → ShortensElement b w written → MarkedElement b w written
+element_marked : (b : Spelling) (w written : List ℕ) → ShortensElement b w written → MarkedElement b w written
 element_marked b w written (number {major = major} {n = n} c p q) = by_major b major n w written c p q
 element_marked b w written (simple {n = n} short meant p q) =
     let z = has_number b Other n w p in
@@ -201,7 +203,7 @@ element_marked b w written (simple {n = n} short meant p q) =
     (λ on. fewest_is Other n w (rw on at p))
     (λ on small. elim (meant on) [ inl a ↦ omega (arith, a, small.0) | inr a ↦ omega (arith, a, small.1) ])
 element_marked b w written (float {bits = n} long p) =
-    let z = has_number false Other n w p in float_marked b z.0 n w z.1 z.2 long
+    let z = has_number Any Other n w p in float_marked b z.0 n w z.1 z.2 long
 element_marked b w written (alone {byte = byte} which) = alone_marked b byte which
 element_marked b w written (whole {major = major} s) =
     let k = string_kind s in whole_marked b k.0 w written (rw k.1 at s)
@@ -211,22 +213,23 @@ element_marked b w written (parts {major = major} {strings = x} {written = y} ki
 -- ---- elements at the beginning of bytes
 
 -- The bytes begin with `count` elements, `written` is their spelling, and `rest` are the bytes after them.
-abbrev pub SpellsFront : Bool → ℕ → List ℕ → List ℕ → List ℕ → Type 0
-SpellsFront strict count due written rest =
-    (front : BeginsWithElements strict count due) × (written ≡ spelling front.marks) × (rest ≡ front.rest)
+abbrev pub SpellsFront : Spelling → ℕ → List ℕ → List ℕ → List ℕ → Type 0
+SpellsFront allowed count due written rest =
+    (front : BeginsWithElements allowed count due) × (written ≡ spelling front.marks) × (rest ≡ front.rest)
 
 -- If `Shortens` holds, the bytes begin with `count` elements, and `written` is their spelling.
-pub shortened_front : (strict : Bool) (count : ℕ) (due written rest : List ℕ) → Shortens strict count due written rest
-    → SpellsFront strict count due written rest
-shortened_front strict count due written rest shortens_done = (
+pub shortened_front : (allowed : Spelling) (count : ℕ) (due written rest : List ℕ)
+    → Shortens allowed count due written rest
+    → SpellsFront allowed count due written rest
+shortened_front allowed count due written rest shortens_done = (
   record { elements = []; marks = []; rest = rest; run = done; is = refl; spelled = λ on. spelled_none },
   refl,
   refl,
 )
-shortened_front strict count due written rest
+shortened_front allowed count due written rest
     (shortens_next {count = m} {element = x} {bytes = y} {written = u} {more = v} e others) =
-    let one = element_marked strict x u e in
-    let all = shortened_front strict m y v rest others in
+    let one = element_marked allowed x u e in
+    let all = shortened_front allowed m y v rest others in
     let front = all.0 in (
       record {
         elements = x ++ front.elements;
@@ -244,12 +247,13 @@ shortened_front strict count due written rest
     )
 
 -- A copy of the copy is the same bytes.
-pub shortened_again : (strict : Bool) (count : ℕ) (due written rest : List ℕ) → Shortens strict count due written rest
-    → Shortens strict count written written []
-shortened_again strict count due written rest s =
-    let all = shortened_front strict count due written rest s in
+pub shortened_again : (allowed : Spelling) (count : ℕ) (due written rest : List ℕ)
+    → Shortens allowed count due written rest
+    → Shortens allowed count written written []
+shortened_again allowed count due written rest s =
+    let all = shortened_front allowed count due written rest s in
     let front = all.0 in
-    rw all.1 (front_shortened strict count (spelling front.marks) record {
+    rw all.1 (front_shortened allowed count (spelling front.marks) record {
       elements = spelling front.marks;
       marks = front.marks;
       rest = [];
@@ -260,35 +264,35 @@ shortened_again strict count due written rest s =
 
 -- ---- further facts
 
-pub shortened_is : (strict : Bool) (count : ℕ) (due written rest : List ℕ)
-    → Shortens strict count due written rest ↔ SpellsFront strict count due written rest
-shortened_is strict count due written rest = (
-  shortened_front strict count due written rest,
-  λ found. rw (found.1, found.2) (front_shortened strict count due found.0),
+pub shortened_is : (allowed : Spelling) (count : ℕ) (due written rest : List ℕ)
+    → Shortens allowed count due written rest ↔ SpellsFront allowed count due written rest
+shortened_is allowed count due written rest = (
+  shortened_front allowed count due written rest,
+  λ found. rw (found.1, found.2) (front_shortened allowed count due found.0),
 )
 
 -- There is at most one copy and one rest, for a strict decoder and for another.
-pub shortened_one : (strict other : Bool) (count : ℕ) (due written rest copy left : List ℕ)
-    → Shortens strict count due written rest → Shortens other count due copy left → (written ≡ copy) × (rest ≡ left)
-shortened_one strict other count due written rest copy left s t =
-    let a = shortened_front strict count due written rest s in
+pub shortened_one : (allowed other : Spelling) (count : ℕ) (due written rest copy left : List ℕ)
+    → Shortens allowed count due written rest → Shortens other count due copy left → (written ≡ copy) × (rest ≡ left)
+shortened_one allowed other count due written rest copy left s t =
+    let a = shortened_front allowed count due written rest s in
     let b = shortened_front other count due copy left t in
     let one = one_run count a.0.elements a.0.marks a.0.run b.0.elements a.0.rest b.0.rest b.0.marks b.0.run
     (sym a.0.is ∙ b.0.is) in
     (a.1 ∙ (ap spelling one.1 ∙ sym b.1), a.2 ∙ one.2 ∙ sym b.2)
 
 -- The copy is no longer than the bytes that were copied.
-pub shortened_no_longer : (strict : Bool) (count : ℕ) (due written rest : List ℕ)
-    → Shortens strict count due written rest → length written + length rest ≤ length due
-shortened_no_longer strict count due written rest s =
-    let all = shortened_front strict count due written rest s in
+pub shortened_no_longer : (allowed : Spelling) (count : ℕ) (due written rest : List ℕ)
+    → Shortens allowed count due written rest → length written + length rest ≤ length due
+shortened_no_longer allowed count due written rest s =
+    let all = shortened_front allowed count due written rest s in
     let shorter = (run_again count all.0.elements all.0.marks all.0.run).shorter in
     omega (arith, shorter, ap length all.0.is, ap length all.1, ap length all.2, length-append {A = ℕ})
 
 -- Elements that a strict decoder takes are written as they were.
-pub shortened_same : (count : ℕ) (due written rest : List ℕ) → Shortens true count due written rest
+pub shortened_same : (count : ℕ) (due written rest : List ℕ) → Shortens Shortest count due written rest
     → due ≡ written ++ rest
 shortened_same count due written rest s =
-    let all = shortened_front true count due written rest s in
+    let all = shortened_front Shortest count due written rest s in
     let same = spelled_alone all.0.elements all.0.marks (all.0.spelled refl) in
     cc (all.0.is, same, all.1, all.2)

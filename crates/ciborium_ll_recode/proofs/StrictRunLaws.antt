@@ -1,7 +1,8 @@
 -- Elements that are their own spelling are those whose titles are all strict, with no open inside another open.
-use Rattle.std.proofs.Common.{[], ◌≡◌, ℕ, ◌≤◌, ◌↔◌, true, false, List, ◌++◌, length, Some, None, refl, sym, ap, subst}
+use Rattle.std.proofs.Common.{[], ◌≡◌, ℕ, ◌≤◌, ◌↔◌, true, List, ◌++◌, length, Some, None, refl, sym, ap, subst}
 use Rattle.std.proofs.Common.{◌∙◌, arith, append-nil, length-append}
 use Rattle.std.specs.List.{AllByRecursion}
+use Rattle.ciborium_ll_grammar.specs.declared.spelling.Spelling.TheVariants.{Any, Shortest}
 use Rattle.ciborium_ll_grammar.specs.Title.{shortest_title}
 use Rattle.ciborium_ll_grammar.specs.Strings.{Kind, kind_header, AreStrings, none as no_strings, more as more_strings}
 use Rattle.ciborium_ll_grammar.specs.Strings.IsString.{definite, indefinite}
@@ -90,7 +91,8 @@ titles count bytes marks = (
 )
 
 -- Elements at the beginning are strict exactly if they are their own spelling, without simple values from 24 to 31.
-pub unchanged : (count : ℕ) (bytes : List ℕ) (front : BeginsWithElements false count bytes) → BeginsWithElements true count bytes
+pub unchanged : (count : ℕ) (bytes : List ℕ) (front : BeginsWithElements Any count bytes)
+    → BeginsWithElements Shortest count bytes
     ↔ ((spelling front.marks ≡ front.elements) × AllByRecursion IsNoSmallSimple front.marks)
 unchanged count bytes front = (
   λ strict. (
@@ -102,7 +104,7 @@ unchanged count bytes front = (
       )
       ),
   λ same. (
-      let strict : true ≡ true → IsStrictSpelling front.elements front.marks [] = λ on. record {
+      let allowed : true ≡ true → IsStrictSpelling front.elements front.marks [] = λ on. record {
         same = sym same.0 ∙ sym (append-nil (spelling front.marks));
         meant = same.1;
       } in
@@ -110,6 +112,6 @@ unchanged count bytes front = (
       ),
 )
 
-pub as_long : (count : ℕ) (bytes : List ℕ) (front : BeginsWithElements false count bytes)
+pub as_long : (count : ℕ) (bytes : List ℕ) (front : BeginsWithElements Any count bytes)
     → length front.elements ≤ length (spelling front.marks) → spelling front.marks ≡ front.elements
 as_long count bytes front long = sym (tight_run count front.elements front.marks front.run long)

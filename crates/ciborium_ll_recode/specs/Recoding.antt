@@ -17,7 +17,7 @@ use Rattle.ciborium_ll_grammar.specs.Elements.{Mark, Open, mark_spelling, pieces
 use Rattle.ciborium_ll_grammar.specs.Elements.{IsRun, IsStrictSpelling}
 use Rattle.ciborium_ll_grammar.specs.Faults.{Point, In, BodyDue, Reaches, IsAtTitle, IsRefusedIn, with_front}
 use Rattle.ciborium_ll_decoder.specs.Decoding.{offset_limit, MovesOn, Strictly, ReadsPast, DecoderPullAnswer, PullsTitle}
-use Rattle.ciborium_ll_decoder.specs.Decoding.{strict_of}
+use Rattle.ciborium_ll_decoder.specs.Decoding.{spelling_of}
 use Rattle.ciborium_ll_decoder.specs.Segments.{PullsOther}
 use Rattle.ciborium_ll_decoder.specs.BodyCopies.{Sides, sides}
 pub use Rattle.ciborium_ll_decoder.specs.BodyCopies.{BodyWritten, BodyUnread, BodyUnwritten}
@@ -101,7 +101,7 @@ module _ {R E W F : Type 0} (source : Reader R E) (sink : Writer W F) where
     pub reaches : Reaches count bytes marks (In kind)
     pub between : Decoder R
     pub copied : Copied old bytes marks (sides between new.writer)
-    pub other : PullsOther source (IsRefusedIn (strict_of between) kind) between at new.decoder
+    pub other : PullsOther source (IsRefusedIn (spelling_of between) kind) between at new.decoder
     pub strict : Strictly old.decoder (IsStrictSpelling bytes marks [])
 
   -- There are more opens than can be counted, and at least as many bytes. The offset is then 2^64 - 1, the greatest

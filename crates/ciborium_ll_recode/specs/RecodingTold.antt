@@ -1,6 +1,6 @@
 -- The meaning of a copy of elements if the bytes are told: whatever fails, and if no side fails by itself. A strict
 -- decoder takes elements in their shortest spelling alone.
-use Rattle.std.specs.Prelude.{◌≡◌, ℕ, Bool, true, false, ◌+◌, ◌<◌, ◌≤◌, ◌⊎◌, min, max, List, ◌++◌, length, drop, None}
+use Rattle.std.specs.Prelude.{◌≡◌, ℕ, ◌+◌, ◌<◌, ◌≤◌, ◌⊎◌, min, max, List, ◌++◌, length, drop, None}
 use Rattle.std.specs.Prelude.{Some, Result, Ok, Err}
 use Rattle.ciborium_ll_io.specs.declared.io.Read.{Ghosts as Reader}
 use Rattle.ciborium_ll_io.specs.declared.io.Write.{Ghosts as Writer}
@@ -8,11 +8,13 @@ use Rattle.ciborium_ll_decoder.specs.declared.dec.Decoder.{Decoder}
 use Rattle.ciborium_ll_decoder.specs.declared.dec.Error.TheVariants as e
 use Rattle.ciborium_ll_decoder.specs.declared.copy.RecodeError.{RecodeError}
 use Rattle.ciborium_ll_decoder.specs.declared.copy.RecodeError.TheVariants as r
+use Rattle.ciborium_ll_grammar.specs.declared.spelling.Spelling.{Spelling}
+use Rattle.ciborium_ll_grammar.specs.declared.spelling.Spelling.TheVariants.{Any, Shortest}
 use Rattle.ciborium_ll_grammar.specs.Strings.{IsWritable, most_kept}
 use Rattle.ciborium_ll_grammar.specs.Elements.{Mark, spelling, IsRun}
 use Rattle.ciborium_ll_grammar.specs.Faults.{Point, Due, In, BodyDue, Reaches, Answer, Short, Syntax, BeginsWithElements}
 use Rattle.ciborium_ll_grammar.specs.Faults.{HasFault, with_front}
-use Rattle.ciborium_ll_decoder.specs.Decoding.{offset_limit, Begins, view, IsSteady, strict_of}
+use Rattle.ciborium_ll_decoder.specs.Decoding.{offset_limit, Begins, view, IsSteady, spelling_of}
 use Rattle.ciborium_ll_recode.specs.Recoding.{NextWrite}
 use Rattle.ciborium_ll_decoder.specs.BodyCopies.{Sides}
 
@@ -60,23 +62,24 @@ module _ {R E W F : Type 0} (source : Reader R E) (sink : Writer W F) where
   -- The bytes that are due and those that were written are told. The decoder is strict or not, as given. No header may
   -- wait on a strict decoder, which never read that header itself. If the header of `82` waits before `01 02`, the
   -- bytes that are due are `82 01 02`.
-  pub record IsTold (strict : Bool) (now : Sides R W) (due written : List ℕ) : Type 0 where
-    pub mode : strict_of now.decoder ≡ strict
+  pub record IsTold (allowed : Spelling) (now : Sides R W) (due written : List ℕ) : Type 0 where
+    pub mode : spelling_of now.decoder ≡ allowed
     pub due-told : view source now.decoder ≡ Some due
     pub written-told : sink.written now.writer ≡ Some written
-    pub none_waits : strict ≡ true → now.decoder.waiting ≡ None
+    pub none_waits : allowed ≡ Shortest → now.decoder.waiting ≡ None
 
   -- The reader gives the bytes that it tells. The offset fits the bytes that are due, with 8 and with the buffer's
   -- length to spare. The writer has room for the elements' spelling if that many are next, and otherwise for as many
   -- bytes as are due. For two elements of `18 17 01`, this is room for 2 bytes.
-  pub record IsReady (strict : Bool) (count room-in : ℕ) (now : Sides R W)
+  pub record IsReady (allowed : Spelling) (count room-in : ℕ) (now : Sides R W)
       (due written : List ℕ) : Type 0 where
     pub steady : IsSteady source now.decoder
-    pub told : IsTold strict now due written
+    pub told : IsTold allowed now due written
     pub room : ℕ
     pub room-told : sink.room now.writer ≡ Some room
     -- Room for the spelling of the elements if they are next, and otherwise for as many bytes as are due.
-    pub enough : ((front : BeginsWithElements false count due) × (length (spelling front.marks) ≤ room)) ⊎ (length due ≤ room)
+    pub enough : ((front : BeginsWithElements Any count due) × (length (spelling front.marks) ≤ room))
+        ⊎ (length due ≤ room)
     pub fits-title : now.decoder.offset + length due + 8 < offset_limit
     pub fits-chunk : now.decoder.offset + length due + room-in < offset_limit
 
@@ -85,9 +88,9 @@ module _ {R E W F : Type 0} (source : Reader R E) (sink : Writer W F) where
   -- The bytes that were due began with `count` elements. Exactly their shortest spelling was written, and exactly the
   -- bytes that follow are left. The spelling is the same elements again, so a copy of it changes nothing. If one
   -- element of `18 17 01` is due and the copy is not strict, it wrote `17`, and `01` is left.
-  pub record CopiesFront (strict : Bool) (count : ℕ) (due written : List ℕ) (old : Decoder R)
+  pub record CopiesFront (allowed : Spelling) (count : ℕ) (due written : List ℕ) (old : Decoder R)
       (new : Sides R W) : Type 0 where
-    pub front : BeginsWithElements strict count due
+    pub front : BeginsWithElements allowed count due
     pub output : sink.written new.writer ≡ Some (written ++ spelling front.marks)
     pub again : IsRun count (spelling front.marks) front.marks
     pub left : view source new.decoder ≡ Some front.rest
@@ -98,9 +101,9 @@ module _ {R E W F : Type 0} (source : Reader R E) (sink : Writer W F) where
 
   -- The copy met a fault. The answer, the bytes that were written and those that are consumed are the fault's own. If
   -- two elements of `82 1c` are due, the fault is at the byte 1: `82` was written, and `1c` is consumed.
-  pub record MeetsFault (strict : Bool) (count : ℕ) (due written : List ℕ) (answer : Answer) (old : Decoder R)
+  pub record MeetsFault (allowed : Spelling) (count : ℕ) (due written : List ℕ) (answer : Answer) (old : Decoder R)
       (new : Sides R W) : Type 0 where
-    pub fault : HasFault strict count due
+    pub fault : HasFault allowed count due
     pub answered : fault.answer ≡ answer
     pub output : sink.written new.writer ≡ Some (written ++ fault.written)
     pub left : view source new.decoder ≡ Some (drop fault.consumed fault.ahead)
@@ -108,16 +111,16 @@ module _ {R E W F : Type 0} (source : Reader R E) (sink : Writer W F) where
 
   -- `recode` if no side fails by itself: it copies all elements, or the first fault stops it. The relation says which
   -- bytes are written and left, and the offset. For one element of `01 02`, `01` was written and `02` is left.
-  abbrev pub RecodesTold : Bool → ℕ → List ℕ → List ℕ → Decoder R → Result (Unit {0}) (RecodeError E F) → Sides R W
+  abbrev pub RecodesTold : Spelling → ℕ → List ℕ → List ℕ → Decoder R → Result (Unit {0}) (RecodeError E F) → Sides R W
       → Type 0
-  RecodesTold strict count due written old (Ok done) new = CopiesFront strict count due written old new
-  RecodesTold strict count due written old (Err (r.Read (e.Io fault))) new =
-      MeetsFault strict count due written Short old new
-  RecodesTold strict count due written old (Err (r.Read (e.Syntax place))) new =
-      (start : ℕ) × (place ≡ old.offset + start) × MeetsFault strict count due written (Syntax start) old new
-  RecodesTold strict count due written old (Err (r.Read e.TooLong)) new = ⊥
-  RecodesTold strict count due written old (Err (r.Read e.Waiting)) new = ⊥
-  RecodesTold strict count due written old (Err (r.Write fault)) new = ⊥
+  RecodesTold allowed count due written old (Ok done) new = CopiesFront allowed count due written old new
+  RecodesTold allowed count due written old (Err (r.Read (e.Io fault))) new =
+      MeetsFault allowed count due written Short old new
+  RecodesTold allowed count due written old (Err (r.Read (e.Syntax place))) new =
+      (start : ℕ) × (place ≡ old.offset + start) × MeetsFault allowed count due written (Syntax start) old new
+  RecodesTold allowed count due written old (Err (r.Read e.TooLong)) new = ⊥
+  RecodesTold allowed count due written old (Err (r.Read e.Waiting)) new = ⊥
+  RecodesTold allowed count due written old (Err (r.Write fault)) new = ⊥
 
   -- ---- where a side may fail by itself
 
@@ -137,15 +140,15 @@ module _ {R E W F : Type 0} (source : Reader R E) (sink : Writer W F) where
 
   -- `recode` through a buffer of `room-in` bytes, whatever fails. `Ok` and `Syntax` mean the same as if nothing failed.
   -- After `Ok` for one element of `01 02`, `02` is left.
-  abbrev pub RecodesAnyhow : Bool → ℕ → ℕ → List ℕ → List ℕ → Decoder R → Result (Unit {0}) (RecodeError E F)
+  abbrev pub RecodesAnyhow : Spelling → ℕ → ℕ → List ℕ → List ℕ → Decoder R → Result (Unit {0}) (RecodeError E F)
       → Sides R W → Type 0
-  RecodesAnyhow strict count room-in due written old (Ok done) new = CopiesFront strict count due written old new
-  RecodesAnyhow strict count room-in due written old (Err (r.Read (e.Io fault))) new =
+  RecodesAnyhow allowed count room-in due written old (Ok done) new = CopiesFront allowed count due written old new
+  RecodesAnyhow allowed count room-in due written old (Err (r.Read (e.Io fault))) new =
       StopsShort count due written old new
-  RecodesAnyhow strict count room-in due written old (Err (r.Read (e.Syntax place))) new =
-      (start : ℕ) × (place ≡ old.offset + start) × MeetsFault strict count due written (Syntax start) old new
-  RecodesAnyhow strict count room-in due written old (Err (r.Read e.TooLong)) new =
+  RecodesAnyhow allowed count room-in due written old (Err (r.Read (e.Syntax place))) new =
+      (start : ℕ) × (place ≡ old.offset + start) × MeetsFault allowed count due written (Syntax start) old new
+  RecodesAnyhow allowed count room-in due written old (Err (r.Read e.TooLong)) new =
       StopsShort count due written old new × (offset_limit ≤ new.decoder.offset + max 8 room-in)
-  RecodesAnyhow strict count room-in due written old (Err (r.Read e.Waiting)) new = ⊥
-  RecodesAnyhow strict count room-in due written old (Err (r.Write fault)) new =
+  RecodesAnyhow allowed count room-in due written old (Err (r.Read e.Waiting)) new = ⊥
+  RecodesAnyhow allowed count room-in due written old (Err (r.Write fault)) new =
       StopsUnwritten count room-in due written old new

@@ -1,6 +1,7 @@
 //! The copy of elements.
 
 ghost use Rattle.std.specs.Prelude.{◌≡◌, ◌≤◌, ◌↔◌, ℕ, Bool, List, length, IsOk, None, Some};
+ghost use Rattle.ciborium_ll_grammar.specs.declared.spelling.Spelling.{Spelling};
 ghost use Rattle.ciborium_ll_grammar.specs.Title.{title_len};
 ghost use Rattle.ciborium_ll_grammar.specs.Strings.{kind_header};
 ghost use Rattle.ciborium_ll_decoder.specs.Decoding.{MovesOn, offset_of, waiting_of};
@@ -195,19 +196,19 @@ pub fn recode<R: Read, W: Write>(
     buffer: &mut [u8],
 ) -> Result<(), RecodeError<R::Error, W::Error>>
     requires room { LEAST_BUFFER ≤ length buffer.old }
-    ensures exactly { (strict : Bool) (due written : List ℕ)
-        → OnlyBytesStop R.Read W.Write strict count (length buffer.old) decoder.old (writer_of encoder.old) due written
-        → CopiesExactly R.Read W.Write strict count due written result decoder.new (writer_of encoder.new) }
-    ensures front { (strict : Bool) (due written : List ℕ)
-        → IsReady R.Read W.Write strict count (length buffer.old) (sides_of decoder.old encoder.old) due written
-        → (IsOk result ↔ BeginsWithElements strict count due) }
-    ensures told { (strict : Bool) (due written : List ℕ)
-        → IsReady R.Read W.Write strict count (length buffer.old) (sides_of decoder.old encoder.old) due written
-        → RecodesTold R.Read W.Write strict count due written decoder.old result
+    ensures exactly { (allowed : Spelling) (due written : List ℕ)
+        → OnlyBytesStop R.Read W.Write allowed count (length buffer.old) decoder.old (writer_of encoder.old) due written
+        → CopiesExactly R.Read W.Write allowed count due written result decoder.new (writer_of encoder.new) }
+    ensures front { (allowed : Spelling) (due written : List ℕ)
+        → IsReady R.Read W.Write allowed count (length buffer.old) (sides_of decoder.old encoder.old) due written
+        → (IsOk result ↔ BeginsWithElements allowed count due) }
+    ensures told { (allowed : Spelling) (due written : List ℕ)
+        → IsReady R.Read W.Write allowed count (length buffer.old) (sides_of decoder.old encoder.old) due written
+        → RecodesTold R.Read W.Write allowed count due written decoder.old result
         (sides_of decoder.new encoder.new) }
-    ensures anyhow { (strict : Bool) (due written : List ℕ)
-        → IsTold R.Read W.Write strict (sides_of decoder.old encoder.old) due written
-        → RecodesAnyhow R.Read W.Write strict count (length buffer.old) due written decoder.old result
+    ensures anyhow { (allowed : Spelling) (due written : List ℕ)
+        → IsTold R.Read W.Write allowed (sides_of decoder.old encoder.old) due written
+        → RecodesAnyhow R.Read W.Write allowed count (length buffer.old) due written decoder.old result
         (sides_of decoder.new encoder.new) }
     ensures copied { Recodes R.Read W.Write count (length buffer.old) (sides_of decoder.old encoder.old) result
         (sides_of decoder.new encoder.new) }

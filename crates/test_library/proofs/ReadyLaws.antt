@@ -1,5 +1,6 @@
 -- A fresh decoder over a steady reader that tells its bytes, and a writer with room for as many, are ready for a copy.
-use Rattle.std.proofs.Common.{◌≡◌, ℕ, false, ◌+◌, ◌<◌, ◌≤◌, IsTrue, List, length, Some, subst, sym, ap, ◌∙◌, inr, arith}
+use Rattle.std.proofs.Common.{◌≡◌, ℕ, ◌+◌, ◌<◌, ◌≤◌, IsTrue, List, length, Some, subst, sym, ap, ◌∙◌, inr, arith}
+use Rattle.ciborium_ll.specs.Types.Spelling.TheVariants.{Any}
 use Rattle.ciborium_ll.specs.Types.Read.{Ghosts as Reader}
 use Rattle.ciborium_ll.specs.Types.Write.{Ghosts as Writer}
 use Rattle.ciborium_ll.specs.Types.Decoder.{Decoder}
@@ -25,7 +26,7 @@ module _ {D S E F : Type 0} (source : Reader D E) (sink : Writer S F) where
       → source.ahead reader ≡ Some due → sink.written writer ≡ Some written → sink.room writer ≡ Some room
       → length due ≤ room
       → length due + 8 < offset_limit → length due + size < offset_limit
-      → OnlyBytesStop source sink false count size decoder writer due written
+      → OnlyBytesStop source sink Any count size decoder writer due written
   ready_for_elements count size room reader decoder writer due written fresh steady ahead output space enough title
       chunk =
       record {

@@ -1,9 +1,10 @@
 // Copies between slices. Proofs here, outside the library, say when they succeed. They show that a caller can meet the
 // library's conditions on the reader, the writer and the offset.
 
-ghost use Rattle.std.specs.Prelude.{◌≤◌, ◌+◌, ◌<◌, ◌^◌, ◌↔◌, ℕ, List, IsTrue, false, length};
+ghost use Rattle.std.specs.Prelude.{◌≤◌, ◌+◌, ◌<◌, ◌^◌, ◌↔◌, ℕ, List, IsTrue, length};
 ghost use Rattle.ciborium_ll.specs.Copying.{TitlesInFront};
 ghost use Rattle.ciborium_ll.specs.Shortening.{Shortens};
+ghost use Rattle.ciborium_ll.specs.Types.Spelling.TheVariants.{Any};
 
 use crate::checks::holds;
 use ciborium_ll::io::{SliceReader, SliceWriter};
@@ -16,7 +17,7 @@ use ciborium_ll::{Decoder, Encoder};
 fn copies_elements(bytes: &[u8], space: &mut [u8], count: usize) -> bool
     requires room { length bytes.now ≤ length space.old }
     requires fits { length bytes.now + 8 < 2 ^ 64 }
-    ensures { IsTrue result ↔ ((copy : List ℕ) × (rest : List ℕ) × Shortens false count bytes.now copy rest) }
+    ensures { IsTrue result ↔ ((copy : List ℕ) × (rest : List ℕ) × Shortens Any count bytes.now copy rest) }
 {
     let mut decoder = Decoder::from(SliceReader::new(bytes));
     let mut encoder = Encoder::from(SliceWriter::new(space));

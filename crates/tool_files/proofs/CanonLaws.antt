@@ -1,6 +1,8 @@
 -- The places of refusals, and the encodings of one item more.
-use Rattle.std.proofs.Common.{◌≡◌, ◌≤◌, ◌+◌, ◌-◌, ℕ, List, [], ◌++◌, length, arith, Bool, false, Option, None, Some}
+use Rattle.std.proofs.Common.{◌≡◌, ◌≤◌, ◌+◌, ◌-◌, ℕ, List, [], ◌++◌, length, arith, Option, None, Some}
 use Rattle.std.proofs.Common.{IfSome, length-append, append_assoc, refl, sym, ◌∙◌, ap, subst, ◌^◌, ◌<◌, min, ◌∷◌}
+use Rattle.ciborium_ll_grammar.specs.declared.spelling.Spelling.{Spelling}
+use Rattle.ciborium_ll_grammar.specs.declared.spelling.Spelling.TheVariants.{Any}
 use Rattle.ciborium_ll_grammar.specs.Faults.{Answer, BodyDue, Due, FirstFault, In, Point, Syntax}
 use Rattle.ciborium_ll_grammar.specs.Faults.{CutTitle, NoTitle, LongTitle, OtherTitle, DamagedText, CutBody}
 use Rattle.ciborium_ll_grammar.specs.Faults.{CutDamagedText}
@@ -27,42 +29,45 @@ IsPlaceWithin (BodyDue kind len start) most = start ≤ most
 IsPlaceWithin Due most = Unit {0}
 IsPlaceWithin (In kind) most = Unit {0}
 
-reach_within : (strict : Bool) (depth : ℕ) (before : List ℕ) (point : Point) → ReachesItem strict depth before point
+reach_within : (allowed : Spelling) (depth : ℕ) (before : List ℕ) (point : Point)
+    → ReachesItem allowed depth before point
     → IsPlaceWithin point (length before)
-reach_within strict depth before point (at_item due) = tt
-reach_within strict depth before point (at_string due inside taken writable) = tt
-reach_within strict depth before point (at_body kind reach title taken) = omega arith
-reach_within strict depth before point (at_piece {bytes = b} {title = t} reach title taken) =
+reach_within allowed depth before point (at_item due) = tt
+reach_within allowed depth before point (at_string due inside taken writable) = tt
+reach_within allowed depth before point (at_body kind reach title taken) = omega arith
+reach_within allowed depth before point (at_piece {bytes = b} {title = t} reach title taken) =
     omega (arith, length-append b t)
 
 same_place : (m n : ℕ) → Syntax m ≡ Syntax n → m ≡ n
 same_place m n same = grind (arith, same)
 
-fault_within : (strict : Bool) (before : List ℕ) (marks : List Mark) (point : Point) (ahead : List ℕ) (answer : Answer)
-    (written : List ℕ) (consumed at : ℕ) → FirstFault strict before marks point ahead answer written consumed
+fault_within : (allowed : Spelling) (before : List ℕ) (marks : List Mark) (point : Point) (ahead : List ℕ)
+    (answer : Answer)
+    (written : List ℕ) (consumed at : ℕ) → FirstFault allowed before marks point ahead answer written consumed
     → answer ≡ Syntax at → IsPlaceWithin point (length before) → at ≤ length before
-fault_within strict before marks point ahead answer written consumed at (CutTitle due cut) is within =
+fault_within allowed before marks point ahead answer written consumed at (CutTitle due cut) is within =
     absurd (grind (arith, is))
-fault_within strict before marks point ahead answer written consumed at (NoTitle due refused) is within =
+fault_within allowed before marks point ahead answer written consumed at (NoTitle due refused) is within =
     omega (arith, same_place _ _ is)
-fault_within strict before marks point ahead answer written consumed at (LongTitle header rest due title none all) is
+fault_within allowed before marks point ahead answer written consumed at (LongTitle header rest due title none all) is
     within = omega (arith, same_place _ _ is)
-fault_within strict before marks point ahead answer written consumed at (OtherTitle header rest title misplaced all) is
+fault_within allowed before marks point ahead answer written consumed at (OtherTitle header rest title misplaced all) is
     within = omega (arith, same_place _ _ is)
-fault_within strict before marks point ahead answer written consumed at (DamagedText front rest a b c d e f) is within =
+fault_within allowed before marks point ahead answer written consumed at (DamagedText front rest a b c d e f) is
+    within =
     omega (arith, same_place _ _ is, within)
-fault_within strict before marks point ahead answer written consumed at (CutBody front rest a b c d e f) is within =
+fault_within allowed before marks point ahead answer written consumed at (CutBody front rest a b c d e f) is within =
     absurd (grind (arith, is))
-fault_within strict before marks point ahead answer written consumed at (CutDamagedText front rest a b c d e f) is
+fault_within allowed before marks point ahead answer written consumed at (CutDamagedText front rest a b c d e f) is
     within = omega (arith, same_place _ _ is, within)
 
 -- A fault of an item is within its bytes.
-syntax_within : (strict : Bool) (depth : ℕ) (bytes : List ℕ) (at : ℕ) (fault : HasItemFault strict depth bytes)
+syntax_within : (allowed : Spelling) (depth : ℕ) (bytes : List ℕ) (at : ℕ) (fault : HasItemFault allowed depth bytes)
     → fault.answer ≡ Syntax at → at ≤ length bytes
-syntax_within strict depth bytes at fault is = omega (
+syntax_within allowed depth bytes at fault is = omega (
   arith,
-  fault_within strict fault.before [] fault.point fault.ahead fault.answer fault.written fault.consumed at fault.fault
-      is (reach_within strict depth fault.before fault.point fault.reach),
+  fault_within allowed fault.before [] fault.point fault.ahead fault.answer fault.written fault.consumed at fault.fault
+      is (reach_within allowed depth fault.before fault.point fault.reach),
   ap (length {A = ℕ}) fault.is,
   length-append fault.before fault.ahead,
 )
@@ -76,7 +81,7 @@ moved_to : (start depth : ℕ) (ahead : List ℕ) (why : Why) (place moved : ℕ
 moved_to start depth ahead w.Cut place moved fits refused is =
     let within = refused.2 in (place, refused, omega (arith, is, within, fits))
 moved_to start depth ahead w.Malformed place moved fits refused is =
-    let within = syntax_within false depth ahead place refused.0 refused.1 in
+    let within = syntax_within Any depth ahead place refused.0 refused.1 in
     (place, refused, omega (arith, is, within, fits))
 moved_to start depth ahead w.Break place moved fits refused is =
     let within = refused.1 in
@@ -167,7 +172,7 @@ module _ (order : Order) (depth : ℕ) where
   }
 
 -- An item has a byte.
-item_some : (depth k : ℕ) (w : List ℕ) → AreItems false depth k w → k ≡ 1 → 0 < length w
+item_some : (depth k : ℕ) (w : List ℕ) → AreItems Any depth k w → k ≡ 1 → 0 < length w
 item_some depth k w no_items one = absurd (omega arith)
 item_some depth k w (more_items {title = t} {rest = r} {others = o} p s c others) one =
     omega (arith, title_some t _ p, length-append t (r ++ o))

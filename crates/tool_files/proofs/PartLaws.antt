@@ -1,11 +1,13 @@
 -- A decoder after the items that it passed over, and the bytes that are left.
-use Rattle.std.proofs.Common.{◌≡◌, ℕ, Bool, List, ◌++◌, Some, None, ap, inl, inr, ◌∙◌}
+use Rattle.std.proofs.Common.{◌≡◌, ℕ, List, ◌++◌, Some, None, ap, inl, inr, ◌∙◌}
+use Rattle.ciborium_ll_grammar.specs.declared.spelling.Spelling.{Spelling}
 use Rattle.ciborium_ll.specs.Types.Decoder.{Decoder}
 use Rattle.ciborium_ll.specs.Types.Read.{Ghosts}
-use Rattle.ciborium_ll.specs.Decoding.{IsFreshAs, view}
+use Rattle.ciborium_ll.specs.Decoding.{IsFreshAs, spelling_of, view}
 use Rattle.ciborium_ll.specs.Items.{AreItems}
 use Rattle.cbor_skip.specs.declared.SkipError.{SkipError}
-use Rattle.cbor_skip.specs.Skipping.{ReadsCounted, StopsCounted, strictness}
+use Rattle.cbor_skip.specs.Skipping.{ReadsCounted, StopsCounted, allowed_by}
+use Rattle.cbor_skip.proofs.StrictnessLaws.{strict_settled}
 use Rattle.cbor_dump.specs.Takings.{IsInMode}
 use Rattle.tool_files.proofs.InputLaws.{consumed_rest}
 
@@ -14,10 +16,10 @@ ahead_of : {R E : Type 0} (source : Ghosts R E) (d : Decoder R) (ahead : List �
     → view source d ≡ Some ahead → source.ahead d.reader ≡ Some ahead
 ahead_of source d ahead none told = rw none at told
 
-module _ {R E : Type 0} (source : Ghosts R E) (strict : Bool) (start : R) (count depth : ℕ) (old : Decoder R)
-    (fresh : IsFreshAs strict start 0 old) where
-  spelling : strictness old ≡ strict
-  spelling = rw fresh.none_waits fresh.mode
+module _ {R E : Type 0} (source : Ghosts R E) (allowed : Spelling) (start : R) (count depth : ℕ) (old : Decoder R)
+    (fresh : IsFreshAs allowed start 0 old) where
+  spelling : allowed_by old ≡ allowed
+  spelling = strict_settled old.waiting (spelling_of old) fresh.none_waits ∙ fresh.mode
 
   module _ (new : Decoder R) (reads : ReadsCounted source count depth old new) where
     -- No header waits.
@@ -29,11 +31,11 @@ module _ {R E : Type 0} (source : Ghosts R E) (strict : Bool) (start : R) (count
         ]
 
     -- The decoder is as strict as at its start.
-    pub mode_then : IsInMode strict new
+    pub mode_then : IsInMode allowed new
     mode_then = record { none_waits = none_waits_then; mode = reads.passed.mode ∙ fresh.mode }
 
     -- The items stand in the spelling of the decoder.
-    pub items_then : AreItems strict depth count reads.items
+    pub items_then : AreItems allowed depth count reads.items
     items_then = rw spelling at reads.are_items
 
     -- The bytes after the items are told.
@@ -46,7 +48,7 @@ module _ {R E : Type 0} (source : Ghosts R E) (strict : Bool) (start : R) (count
 
   -- The items before a fault stand in the spelling of the decoder.
   pub few_items : (room : ℕ) (error : SkipError E) (new : Decoder R)
-      (stops : StopsCounted source count depth room old error new) → AreItems strict depth stops.before stops.items
+      (stops : StopsCounted source count depth room old error new) → AreItems allowed depth stops.before stops.items
   few_items room error new stops = rw spelling at stops.are_items
 
   -- The bytes after the items before a fault are told.

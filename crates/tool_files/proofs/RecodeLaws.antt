@@ -1,11 +1,12 @@
 -- A copy of items, from one piece of a copier to the next.
-use Rattle.std.proofs.Common.{◌≡◌, ℕ, ◌+◌, ◌-◌, ◌<◌, ◌≤◌, ◌⊎◌, inl, inr, false, true, List, [], ◌∷◌, ◌++◌}
+use Rattle.std.proofs.Common.{◌≡◌, ℕ, ◌+◌, ◌-◌, ◌<◌, ◌≤◌, ◌⊎◌, inl, inr, List, [], ◌∷◌, ◌++◌}
 use Rattle.std.proofs.Common.{length, refl, sym, ap, subst, ◌∙◌, arith, append_assoc, append-nil, length-append}
 use Rattle.std.proofs.Common.{take, drop, Option, Some, None, Err, rules}
 use Rattle.std.specs.Io.KnownBytes.{Appends, Consumes, IsAtEnd, Keeps}
 use Rattle.std.proofs.lemmas.Bool.Decides.{nat_tests}
 use Rattle.std.proofs.lemmas.List.{take-append-drop, take_rest}
 use Rattle.std.proofs.Math.Seq.{take-add, take-length}
+use Rattle.ciborium_ll_grammar.specs.declared.spelling.Spelling.TheVariants.{Any}
 use Rattle.cbor_checker.specs.declared.phase.Fault.{Fault}
 use Rattle.cbor_checker.specs.declared.phase.Fault.TheVariants as f
 use Rattle.cbor_checker.specs.declared.progress.Progress.{Progress as Checked}
@@ -35,28 +36,28 @@ use Rattle.tool_files.proofs.RecodePlaces.{place_read}
 -- ---- before the first byte
 
 -- The states before the first byte of an item, and the output.
-fresh_spots : (depth : ℕ) (copier : ItemCopier) → item.HasCopied false depth [] [] copier
-    → (item_spot copier ≡ checks.start false depth) × (elements_spot copier ≡ copies.start most)
+fresh_spots : (depth : ℕ) (copier : ItemCopier) → item.HasCopied Any depth [] [] copier
+    → (item_spot copier ≡ checks.start Any depth) × (elements_spot copier ≡ copies.start most)
     × (pending copier ≡ [])
 unfolding item.HasCopied
 fresh_spots depth copier was =
-    one_fed false depth [] (pending copier) [] (item_spot copier) (checks.start false depth) (elements_spot copier)
+    one_fed Any depth [] (pending copier) [] (item_spot copier) (checks.start Any depth) (elements_spot copier)
     (copies.start most) was
-    (fresh_fed false depth (checks.start false depth) (copies.start most) [] checks.fresh copies.fresh)
+    (fresh_fed Any depth (checks.start Any depth) (copies.start most) [] checks.fresh copies.fresh)
 
-fresh_due : (depth : ℕ) (bytes : List ℕ) (spot : Spot) → bytes ≡ [] → spot ≡ checks.start false depth
+fresh_due : (depth : ℕ) (bytes : List ℕ) (spot : Spot) → bytes ≡ [] → spot ≡ checks.start Any depth
     → r.More 1 ≡ progress_of bytes spot
 fresh_due depth bytes spot given start = rw (given, start) refl
 
 -- A copy of items stands at the start of an item, after these items.
 pub fresh_stands : (depth : ℕ) (most left : Option ℕ) (start count : ℕ) (items outputs : List ℕ) (copier : ItemCopier)
-    → item.HasCopied false depth [] [] copier → AreRespelled depth count items outputs → start ≡ length items
+    → item.HasCopied Any depth [] [] copier → AreRespelled depth count items outputs → start ≡ length items
     → IsLeft most left count → Stands depth most left start items outputs copier
 unfolding item.HasCopied
 fresh_stands depth most left start count items outputs copier was are is limit =
     let spots = fresh_spots depth copier was in
     let told = copier_tells copier (r.More 1) (fresh_due depth (pending copier) (item_spot copier) spots.2 spots.0)
-    false depth [] [] was in
+    Any depth [] [] was in
     record {
       within = record {
         before = items;
@@ -77,8 +78,8 @@ fresh_stands depth most left start count items outputs copier was are is limit =
     }
 
 -- Nothing is held back before the first byte.
-pub fresh_held : (depth : ℕ) (copier : ItemCopier) → item.HasCopied false depth [] [] copier → held copier ≡ 0
-fresh_held depth copier was = (fresh_clear false depth [] copier was).2
+pub fresh_held : (depth : ℕ) (copier : ItemCopier) → item.HasCopied Any depth [] [] copier → held copier ≡ 0
+fresh_held depth copier was = (fresh_clear Any depth [] copier was).2
 
 -- If nothing is pending, at most eight bytes are held back.
 pub few : (copier : ItemCopier) → pending copier ≡ [] → held copier ≤ 8
@@ -99,15 +100,15 @@ named [] spot fault is = of_fault (checker.progress_of spot) is
 named (byte ∷ bytes) spot fault is = absurd cc
 
 -- An item that goes on lacks at least one byte.
-lacks_one : {depth : ℕ} (bytes : List ℕ) → GoesOn false depth bytes → LacksAtLeast false depth bytes 1
+lacks_one : {depth : ℕ} (bytes : List ℕ) → GoesOn Any depth bytes → LacksAtLeast Any depth bytes 1
 lacks_one bytes on [] is = absurd (on.unended (rw append-nil at is))
 lacks_one bytes on (x ∷ behind) is = omega arith
 
 module _ (depth : ℕ) (most left : Option ℕ) (start : ℕ) (fed given : List ℕ) (old new : ItemCopier)
     (stands : Stands depth most left start fed given old)
     (bytes out : List ℕ) (progress : Progress)
-    (copied : item.HasCopied false depth (stands.within.part ++ bytes) (stands.within.front ++ out) new)
-    (tells : Tells false depth (stands.within.part ++ bytes) (stands.within.front ++ out) progress)
+    (copied : item.HasCopied Any depth (stands.within.part ++ bytes) (stands.within.front ++ out) new)
+    (tells : Tells Any depth (stands.within.part ++ bytes) (stands.within.front ++ out) progress)
     (answers : item.AnswersPiece new progress) where
   all_fed : fed ++ bytes ≡ stands.within.before ++ (stands.within.part ++ bytes)
   all_fed = ap (λ (z : List ℕ). z ++ bytes) stands.within.is
@@ -118,7 +119,7 @@ module _ (depth : ℕ) (most left : Option ℕ) (start : ℕ) (fed given : List 
       ∙ append_assoc stands.within.outputs stands.within.front out
 
   end_within : (due : ℕ)
-      → TellsWhole false depth (stands.within.part ++ bytes) (stands.within.front ++ out) (r.More due)
+      → TellsWhole Any depth (stands.within.part ++ bytes) (stands.within.front ++ out) (r.More due)
       → EndWithin depth (fed ++ bytes) (given ++ out)
   end_within due told = record {
     before = stands.within.before;
@@ -139,7 +140,7 @@ module _ (depth : ℕ) (most left : Option ℕ) (start : ℕ) (fed given : List 
   stands_on due is =
       let answer : r.More due ≡ progress_of (pending new) (item_spot new) =
       subst (item.AnswersPiece new) is answers in
-      let told = subst (Tells false depth (stands.within.part ++ bytes) (stands.within.front ++ out)) is tells in
+      let told = subst (Tells Any depth (stands.within.part ++ bytes) (stands.within.front ++ out)) is tells in
       record {
         within = end_within due told;
         copied = copied;
@@ -152,13 +153,13 @@ module _ (depth : ℕ) (most left : Option ℕ) (start : ℕ) (fed given : List 
   pub one_more : (len : ℕ) → progress ≡ r.Ended len
       → AreRespelled depth (stands.within.count + 1) (fed ++ bytes) (given ++ out)
   one_more len is =
-      let told = subst (Tells false depth (stands.within.part ++ bytes) (stands.within.front ++ out)) is tells in
+      let told = subst (Tells Any depth (stands.within.part ++ bytes) (stands.within.front ++ out)) is tells in
       rw (all_fed, all_given) (more stands.within.are told.0.0 told.1)
 
   -- An item that ends takes a byte.
   pub some_taken : (len : ℕ) → progress ≡ r.Ended len → 0 < length bytes
   some_taken len is =
-      let told = subst (Tells false depth (stands.within.part ++ bytes) (stands.within.front ++ out)) is tells in
+      let told = subst (Tells Any depth (stands.within.part ++ bytes) (stands.within.front ++ out)) is tells in
       let due = stands.within.told.0 in
       omega (arith, due.1, due.2 bytes told.0.0)
 
@@ -180,7 +181,7 @@ module _ (depth : ℕ) (most left : Option ℕ) (start : ℕ) (fed given : List 
       let found = names fault is in
       omega (
         arith,
-        place_read false depth (stands.within.part ++ bytes) found.checker fault found.has_read found.answers,
+        place_read Any depth (stands.within.part ++ bytes) found.checker fault found.has_read found.answers,
         stands.start_is,
         ap (length {A = ℕ}) all_fed,
         length-append stands.within.before (stands.within.part ++ bytes),
@@ -198,11 +199,11 @@ module _ (depth : ℕ) (most left : Option ℕ) (start : ℕ) (fed given : List 
     fault = fault;
     count = stands.within.count;
     are = stands.within.are;
-    told = subst (Tells false depth (stands.within.part ++ bytes) (stands.within.front ++ out)) is tells;
+    told = subst (Tells Any depth (stands.within.part ++ bytes) (stands.within.front ++ out)) is tells;
     names = names fault is;
     begins_none = fault_begins_none depth stands.within.count stands.within.before stands.within.outputs (stands.within.part ++ bytes)
         (stands.within.front ++ out) fault stands.within.are
-        (subst (Tells false depth (stands.within.part ++ bytes) (stands.within.front ++ out)) is tells)
+        (subst (Tells Any depth (stands.within.part ++ bytes) (stands.within.front ++ out)) is tells)
         (names fault is);
     is = whole ∙ ap (λ (z : List ℕ). z ++ rest) all_fed
         ∙ append_assoc stands.within.before (stands.within.part ++ bytes) rest;
@@ -214,8 +215,8 @@ module _ (depth : ℕ) (most left : Option ℕ) (start : ℕ) (fed given : List 
   pub too_many : (all rest : List ℕ) → progress ≡ r.TooLong → 0 < length rest → all ≡ (fed ++ bytes) ++ rest
       → TooMany depth all (given ++ out)
   too_many all rest is some whole =
-      let long = subst (Tells false depth (stands.within.part ++ bytes) (stands.within.front ++ out)) is tells in
-      let on : GoesOn false depth (stands.within.part ++ bytes) = long.0.0 in
+      let long = subst (Tells Any depth (stands.within.part ++ bytes) (stands.within.front ++ out)) is tells in
+      let on : GoesOn Any depth (stands.within.part ++ bytes) = long.0.0 in
       record {
         fed = fed ++ bytes;
         rest = rest;

@@ -2,6 +2,7 @@
 use Rattle.std.proofs.Common.{◌≡◌, ℕ, zero, suc, ◌+◌, ◌≤◌, Bool, List, [], ◌∷◌, length, subst, arith}
 use Rattle.std.proofs.Common.{refl, sym}
 use Rattle.std.proofs.lemmas.Bool.Decides.{nat_tests}
+use Rattle.ciborium_ll_grammar.specs.declared.spelling.Spelling.{Spelling}
 use Rattle.ciborium_ll_grammar.specs.declared.hdr.Header.{Header}
 use Rattle.ciborium_ll_grammar.specs.declared.hdr.Header.TheVariants as h
 use Rattle.ciborium_ll_text.specs.declared.state.State.{State}
@@ -94,7 +95,7 @@ step_placed (p.Text (suc left) state) spot new byte placed step =
 step_placed p.Ended spot new byte placed step = absurd step
 step_placed (p.Faulted fault) spot new byte placed step = absurd step
 
-fed_placed : (s : Bool) (d : ℕ) (fed : List ℕ) (spot : Spot) → IsFed s d fed spot → Placed spot
+fed_placed : (s : Spelling) (d : ℕ) (fed : List ℕ) (spot : Spot) → IsFed s d fed spot → Placed spot
 fed_placed s d fed spot fresh = (omega arith, tt)
 fed_placed s d fed spot (more {spot = before} byte below is step) =
     step_placed before.phase before spot byte (fed_placed s d _ before is) step
@@ -107,7 +108,7 @@ fault_is (p.Bytes left) spot fault is = absurd cc
 fault_is (p.Text left state) spot fault is = absurd cc
 fault_is p.Ended spot fault is = absurd cc
 
-place_within : (s : Bool) (d : ℕ) (fed : List ℕ) (spot : Spot) (fault : Fault) → IsFed s d fed spot
+place_within : (s : Spelling) (d : ℕ) (fed : List ℕ) (spot : Spot) (fault : Fault) → IsFed s d fed spot
     → progress_of spot ≡ r.Fault fault → fault_place fault ≤ length fed
 place_within s d fed spot fault is names =
     let placed = subst (λ (z : Phase). FaultIn z spot.offset) (fault_is spot.phase spot fault names)
@@ -115,7 +116,7 @@ place_within s d fed spot fault is names =
     omega (arith, placed, fed_counts s d fed spot is)
 
 -- A checker names a place that is at most the number of the bytes that came.
-pub place_read : (s : Bool) (d : ℕ) (read : List ℕ) (checker : Checker) (fault : Fault) → HasRead s d read checker
+pub place_read : (s : Spelling) (d : ℕ) (read : List ℕ) (checker : Checker) (fault : Fault) → HasRead s d read checker
     → Answers checker (r.Fault fault) → fault_place fault ≤ length read
 unfolding HasRead Answers
 place_read s d read checker fault has_read answers =

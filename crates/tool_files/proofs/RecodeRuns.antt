@@ -5,6 +5,7 @@ use Rattle.std.proofs.Common.{refl, sym, ap, subst, ◌∙◌, arith, append_ass
 use Rattle.std.proofs.lemmas.Bool.{eqb-true, eqb-false}
 use Rattle.std.specs.Io.KnownBytes.{Consumes, IsAtEnd, Keeps}
 use Rattle.std.specs.declared.io.Error.{Error}
+use Rattle.ciborium_ll_grammar.specs.declared.spelling.Spelling.TheVariants.{Any}
 use Rattle.ciborium_ll_text.proofs.Lists.{length_zero}
 use Rattle.cbor_checker.specs.declared.phase.Fault.{Fault}
 use Rattle.cbor_checker.specs.declared.phase.Fault.TheVariants as f
@@ -20,9 +21,9 @@ use Rattle.tool_files.specs.Recodes.{TellsAll, TellsSome, TooMany, end_said, fau
 use Rattle.tool_files.proofs.RecodeLaws.{consumed_known, end_known, kept_known}
 
 -- Without a byte nothing is put out.
-none_out : (depth : ℕ) (part front : List ℕ) (copier : ItemCopier) → HasCopied false depth part front copier
+none_out : (depth : ℕ) (part front : List ℕ) (copier : ItemCopier) → HasCopied Any depth part front copier
     → part ≡ [] → front ≡ []
-none_out depth part front copier was empty = (fresh_clear false depth front copier (rw empty at was)).0
+none_out depth part front copier was empty = (fresh_clear Any depth front copier (rw empty at was)).0
 
 -- Bytes that are told later follow those at which a copy stops.
 stop_later : (depth : ℕ) (bytes more : List ℕ) (verdict : Verdict) (output : List ℕ) → StopAt depth bytes verdict output

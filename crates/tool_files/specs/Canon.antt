@@ -1,8 +1,9 @@
 -- The deterministic encoding of a sequence of items (RFC 8949, 4.2, and RFC 8742), and what `canon` writes.
-use Rattle.std.specs.Prelude.{◌≡◌, ℕ, ◌+◌, ◌-◌, ◌^◌, min, false, List, [], ◌++◌, length, Option, Result, Ok, Err}
+use Rattle.std.specs.Prelude.{◌≡◌, ℕ, ◌+◌, ◌-◌, ◌^◌, min, List, [], ◌++◌, length, Option, Result, Ok, Err}
 use Rattle.std.specs.Io.KnownBytes.{Appends, Keeps}
 use Rattle.std.specs.IoError.{error_kind}
 use Rattle.std.specs.declared.io.ErrorKind.TheVariants as k
+use Rattle.ciborium_ll_grammar.specs.declared.spelling.Spelling.TheVariants.{Any}
 use Rattle.cbor_skip.specs.ItemFaults.{BeginsWithItem}
 use Rattle.cbor_deterministic.specs.declared.Order.{Order}
 use Rattle.cbor_deterministic.specs.declared.Why.TheVariants as d
@@ -46,7 +47,7 @@ pub record HasItemLeft (order : Order) (depth : ℕ) (bytes : List ℕ) : Type 0
   pub ahead : List ℕ
   pub are : AreRewritten order depth before encodings
   pub is : bytes ≡ before ++ ahead
-  pub front : BeginsWithItem false depth ahead
+  pub front : BeginsWithItem Any depth ahead
 
 -- Why the items of the bytes are not rewritten: an item is refused, as the second one of `01 ff`, or no memory is left
 -- for an item.

@@ -1,6 +1,7 @@
 -- What is written of notation.
-use Rattle.std.specs.Prelude.{◌≡◌, ℕ, Bool, false, true, List, Option, Result, Ok, Err}
+use Rattle.std.specs.Prelude.{◌≡◌, ℕ, Bool, false, List, Option, Result, Ok, Err}
 use Rattle.std.specs.Io.KnownBytes.{Appends, Keeps}
+use Rattle.ciborium_ll_grammar.specs.declared.spelling.Spelling.TheVariants.{Any, Shortest}
 use Rattle.ciborium_ll_text.specs.Text.{IsCharacters}
 use Rattle.cbor_encode.specs.Places.{IsFaultIn}
 use Rattle.cbor_encode.specs.Sequences.{has_underscore}
@@ -13,8 +14,8 @@ use Rattle.tool_files.specs.declared.encode.EncodeFault.TheVariants as e
 -- underscore, and so no mark, all titles are the shortest. From `1` come `01`, and from `1_0` come `18 01`.
 pub record AreEncoded (one : Bool) (depth : ℕ) (text bytes : List ℕ) : Type 0 where
   pub is_text : IsCharacters text
-  pub wanted : IsWanted one false depth bytes
-  pub shortest : has_underscore text ≡ false → IsWanted one true depth bytes
+  pub wanted : IsWanted one Any depth bytes
+  pub shortest : has_underscore text ≡ false → IsWanted one Shortest depth bytes
 
 -- `Ok`: the writer got the bytes of what is wanted. A fault of the notation has its place, line and column in the text
 -- of the reader. After it, and after a failed read, the writer has what it had. If the writer failed, it got a

@@ -1,5 +1,6 @@
 -- A reader that ends after a number of items: the items that were handed out.
-use Rattle.std.specs.Prelude.{◌≡◌, ℕ, ◌+◌, ◌≤◌, ◌^◌, ◌⊎◌, false, List, [], ◌++◌, length}
+use Rattle.std.specs.Prelude.{◌≡◌, ℕ, ◌+◌, ◌≤◌, ◌^◌, ◌⊎◌, List, [], ◌++◌, length}
+use Rattle.ciborium_ll_grammar.specs.declared.spelling.Spelling.TheVariants.{Any}
 use Rattle.ciborium_ll_grammar.specs.Items.{AreItems}
 use Rattle.cbor_checker.specs.Checking.{HasRead}
 use Rattle.cbor_checker.specs.Reading.{BeginsItem}
@@ -26,9 +27,9 @@ module _ {R : Type 0} where
   -- them, which the checker has read. If no item begins with the part, any bytes follow. `fenced`: all items have ended. `lost`: there are more
   -- bytes than can be counted. Of 2 items, `01 82` is within, and `01 80` is fenced.
   pub data IsFenced (items : ℕ) (given : List ℕ) (f : Fence R) : Type 0 where
-    within : (count : ℕ) (before part rest : List ℕ) → AreItems false f.depth count before
-        → HasRead false f.depth part f.checker → given ≡ before ++ (part ++ rest)
-        → (rest ≡ []) ⊎ (BeginsItem false f.depth part → ⊥) → count + f.left ≡ items → IsFenced items given f
-    fenced : (before rest : List ℕ) → AreItems false f.depth items before → given ≡ before ++ rest → f.left ≡ 0
+    within : (count : ℕ) (before part rest : List ℕ) → AreItems Any f.depth count before
+        → HasRead Any f.depth part f.checker → given ≡ before ++ (part ++ rest)
+        → (rest ≡ []) ⊎ (BeginsItem Any f.depth part → ⊥) → count + f.left ≡ items → IsFenced items given f
+    fenced : (before rest : List ℕ) → AreItems Any f.depth items before → given ≡ before ++ rest → f.left ≡ 0
         → IsFenced items given f
     lost : 2 ^ 64 ≤ length given + 1 → f.left ≡ 0 → IsFenced items given f

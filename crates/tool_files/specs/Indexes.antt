@@ -1,5 +1,6 @@
 -- The index of an input: a line for each item, with its offset and its length.
-use Rattle.std.specs.Prelude.{◌≡◌, ℕ, Bool, List, ◌++◌, Option, Result, Ok, Err, codes, decimal}
+use Rattle.std.specs.Prelude.{◌≡◌, ℕ, List, ◌++◌, Option, Result, Ok, Err, codes, decimal}
+use Rattle.ciborium_ll_grammar.specs.declared.spelling.Spelling.{Spelling}
 use Rattle.ciborium_ll.specs.Types.BufferedReader.{BufferedReader}
 use Rattle.ciborium_ll.specs.Types.Decoder.{Decoder}
 use Rattle.ciborium_ll.specs.Types.Read.{Ghosts}
@@ -24,11 +25,11 @@ index_said (Err error) fault = Err error
 module _ {T E F : Type 0} (reads : Ghosts (BufferedReader T) E) where
   -- The items were indexed from the start of the input, as a check of them reads it. Of `01 81 02` the places 0 and 1
   -- were taken, with the lengths 1 and 2.
-  pub record IndexesInput (strict : Bool) (skip : ℕ) (most : Option ℕ) (depth : ℕ) (reader : T)
+  pub record IndexesInput (allowed : Spelling) (skip : ℕ) (most : Option ℕ) (depth : ℕ) (reader : T)
       (taken then_taken : Option (List Span)) (result : Result Verdict F) : Type 0 where
     pub old : Decoder (BufferedReader T)
     pub new : Decoder (BufferedReader T)
     pub found : Result Verdict F
-    pub begins : BeginsInput strict reader old
+    pub begins : BeginsInput allowed reader old
     pub indexes : IndexesPart reads skip most depth BUFFER_SIZE taken then_taken old found new
     pub said : result ≡ index_said found (buffered_read_fault new.reader)

@@ -1,5 +1,6 @@
 -- The read of an input, and the verdict on it.
 use Rattle.std.specs.Prelude.{◌≡◌, ℕ, ◌+◌, Bool, true, false, List, [], ◌++◌, length, Option, None, Some}
+use Rattle.ciborium_ll_grammar.specs.declared.spelling.Spelling.{Spelling}
 use Rattle.ciborium_ll.specs.Types.BufferedReader.{BufferedReader}
 use Rattle.ciborium_ll.specs.Types.Decoder.{Decoder}
 use Rattle.ciborium_ll.specs.Types.Read.{Ghosts}
@@ -40,22 +41,22 @@ module _ {T : Type 0} where
   input_remaining remaining (i.Digits digits) = None
 
   -- A decoder at the start of a reader's bytes, through an empty buffer. Its offset is 0.
-  pub record BeginsInput (strict : Bool) (reader : T) (decoder : Decoder (BufferedReader T)) : Type 0 where
+  pub record BeginsInput (allowed : Spelling) (reader : T) (decoder : Decoder (BufferedReader T)) : Type 0 where
     pub start : BufferedReader T
     pub source : buffered_source start ≡ reader
     pub none_ahead : buffered_read_ahead start ≡ []
-    pub fresh : IsFreshAs strict start 0 decoder
+    pub fresh : IsFreshAs allowed start 0 decoder
 
   module _ {E : Type 0} (reads : Ghosts (BufferedReader T) E) where
     -- A check from the start of the input, of one item or of a sequence as is wanted, gave the verdict. With a `skip` or
     -- a limit it is a check of a part of the sequence. A read that failed for another reason than the end takes
     -- precedence. The sequence `01 02` gets `ok 2 2`, unless a read failed so.
-    pub record ChecksInput (strict : Bool) (skip : ℕ) (most : Option ℕ) (one : Bool) (depth : ℕ) (reader : T)
+    pub record ChecksInput (allowed : Spelling) (skip : ℕ) (most : Option ℕ) (one : Bool) (depth : ℕ) (reader : T)
         (verdict : Verdict) : Type 0 where
       pub old : Decoder (BufferedReader T)
       pub new : Decoder (BufferedReader T)
       pub found : Verdict
-      pub begins : BeginsInput strict reader old
+      pub begins : BeginsInput allowed reader old
       pub says : SaysPart reads skip most one depth BUFFER_SIZE old found new
       pub said : verdict ≡ unless_failed (buffered_read_fault new.reader) found
 
@@ -71,21 +72,21 @@ IsFront front bytes = (rest : List ℕ) × (bytes ≡ front ++ rest)
 
 -- The bytes begin with the items that are passed over, and then with these bytes. If one item is passed over, `01 80
 -- 02` begins with `80`, from the offset 1 on.
-pub record IsFrontBehind (skip : ℕ) (strict : Bool) (depth : ℕ) (front bytes : List ℕ) : Type 0 where
+pub record IsFrontBehind (skip : ℕ) (allowed : Spelling) (depth : ℕ) (front bytes : List ℕ) : Type 0 where
   pub before : List ℕ
-  pub are_before : AreItems strict depth skip before
+  pub are_before : AreItems allowed depth skip before
   pub is : IsFront (before ++ front) bytes
 
 -- The numbers of a verdict are those of items that the bytes begin with, after the items that are passed over: of all
 -- items that were read, or of the item that more bytes follow. There are no more items than the limit. `01 02` begins
 -- with the items of `ok 2 2`, and with the item of `more 1`. After `01`, it goes on with the item of `ok 1 1`.
-abbrev pub CountsItems : ℕ → Option ℕ → Bool → Bool → ℕ → List ℕ → Verdict → Type 0
-CountsItems skip None true strict depth bytes (v.Well items count) = (front : List ℕ)
-    × IsFrontBehind skip strict depth front bytes × IsItem strict depth front × (items ≡ 1) × (count ≡ length front)
-CountsItems skip most one strict depth bytes (v.Well items count) = (front : List ℕ)
-    × IsFrontBehind skip strict depth front bytes × AreItems strict depth items front × (count ≡ length front)
+abbrev pub CountsItems : ℕ → Option ℕ → Bool → Spelling → ℕ → List ℕ → Verdict → Type 0
+CountsItems skip None true allowed depth bytes (v.Well items count) = (front : List ℕ)
+    × IsFrontBehind skip allowed depth front bytes × IsItem allowed depth front × (items ≡ 1) × (count ≡ length front)
+CountsItems skip most one allowed depth bytes (v.Well items count) = (front : List ℕ)
+    × IsFrontBehind skip allowed depth front bytes × AreItems allowed depth items front × (count ≡ length front)
     × IsAtMost most items
-CountsItems skip most one strict depth bytes (v.More place) = (front : List ℕ)
-    × (stands : IsFrontBehind skip strict depth front bytes) × IsItem strict depth front
+CountsItems skip most one allowed depth bytes (v.More place) = (front : List ℕ)
+    × (stands : IsFrontBehind skip allowed depth front bytes) × IsItem allowed depth front
     × (place ≡ length stands.before + length front)
-CountsItems skip most one strict depth bytes verdict = Unit {0}
+CountsItems skip most one allowed depth bytes verdict = Unit {0}

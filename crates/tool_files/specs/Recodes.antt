@@ -1,6 +1,7 @@
 -- The items of an input in their shortest spelling (RFC 7049, 3.9, and RFC 8742), and what `recode` writes of them.
-use Rattle.std.specs.Prelude.{◌≡◌, ℕ, ◌+◌, ◌<◌, ◌≤◌, ◌^◌, false, List, [], ◌++◌, length, Option, None, Some}
+use Rattle.std.specs.Prelude.{◌≡◌, ℕ, ◌+◌, ◌<◌, ◌≤◌, ◌^◌, List, [], ◌++◌, length, Option, None, Some}
 use Rattle.std.specs.Prelude.{Result, Ok, Err, IsErr, ◌==◌, if◌then◌else◌}
+use Rattle.ciborium_ll_grammar.specs.declared.spelling.Spelling.TheVariants.{Any}
 use Rattle.ciborium_ll_grammar.specs.Items.{AreItems, IsItem}
 use Rattle.cbor_checker.specs.declared.phase.Fault.{Fault}
 use Rattle.cbor_checker.specs.declared.phase.Fault.TheVariants as f
@@ -21,7 +22,7 @@ use Rattle.tool_verdicts.specs.declared.verdict.Verdict.TheVariants as v
 pub data AreRespelled (depth : ℕ) : ℕ → List ℕ → List ℕ → Type 0 where
   none : AreRespelled depth 0 [] []
   more : {count : ℕ} {items outputs item output : List ℕ} → AreRespelled depth count items outputs
-      → IsItem false depth item → IsSpelled item output
+      → IsItem Any depth item → IsSpelled item output
       → AreRespelled depth (count + 1) (items ++ item) (outputs ++ output)
 
 -- The bytes end with a part of an item, after any number of whole items. More bytes are due, and all that can be
@@ -34,7 +35,7 @@ pub record EndWithin (depth : ℕ) (bytes output : List ℕ) : Type 0 where
   pub due : ℕ
   pub count : ℕ
   pub are : AreRespelled depth count before outputs
-  pub told : TellsWhole false depth part front (r.More due)
+  pub told : TellsWhole Any depth part front (r.More due)
   pub is : bytes ≡ before ++ part
   pub written : output ≡ outputs ++ front
 
@@ -58,13 +59,13 @@ end_said start len = if start == len then Ok tt else Err (v.Short len)
 -- A checker of one item that has read these bytes answers this fault: `Break` at 0 for `ff`.
 pub record Names (depth : ℕ) (fed : List ℕ) (fault : Fault) : Type 0 where
   pub checker : Checker
-  pub has_read : HasRead false depth fed checker
+  pub has_read : HasRead Any depth fed checker
   pub answers : Answers checker (c.Fault fault)
 
 -- Whatever follows these bytes, they are no beginning of a list of items. `01 ff` is none, and `01 82` is one, if the
 -- depth is 1 or more.
 abbrev pub BeginsNone : ℕ → List ℕ → Type 0
-BeginsNone depth bytes = (more : List ℕ) (count : ℕ) → AreItems false depth count (bytes ++ more) → ⊥
+BeginsNone depth bytes = (more : List ℕ) (count : ℕ) → AreItems Any depth count (bytes ++ more) → ⊥
 
 -- After whole items come bytes with which no item begins, whatever follows them. The last one of these is the first
 -- byte that shows it, and the output is that of the bytes before it. The verdict names the fault as a checker of that
@@ -78,7 +79,7 @@ pub record StopAt (depth : ℕ) (bytes : List ℕ) (verdict : Verdict) (output :
   pub fault : Fault
   pub count : ℕ
   pub are : AreRespelled depth count before outputs
-  pub told : TellsWhole false depth fed front (r.Fault fault)
+  pub told : TellsWhole Any depth fed front (r.Fault fault)
   pub names : Names depth fed fault
   pub begins_none : BeginsNone depth (before ++ fed)
   pub is : bytes ≡ before ++ (fed ++ rest)
@@ -180,11 +181,11 @@ part_said start (Err verdict) = Err (verdict_moved start verdict)
 -- nothing was written. If one item of `18 01 18 02` is passed over, `02` is written.
 pub data CopiesPart {R W : Type 0} (left : R → Option (List ℕ)) (got : W → Option (List ℕ)) (skip depth : ℕ)
     (most : Option ℕ) (due written : List ℕ) (result : Result (Unit {0}) Verdict) (writer : W) : Type 0 where
-  copies_none : (count : ℕ) (before ahead : List ℕ) → count < skip → AreItems false depth count before
+  copies_none : (count : ℕ) (before ahead : List ℕ) → count < skip → AreItems Any depth count before
       → due ≡ before ++ ahead → IsErr result → got writer ≡ Some written
       → CopiesPart left got skip depth most due written result writer
   copies_rest : (before ahead : List ℕ) (copied : Result (Unit {0}) Verdict) (reader : R)
-      → AreItems false depth skip before → due ≡ before ++ ahead
+      → AreItems Any depth skip before → due ≡ before ++ ahead
       → CopiesItems left got depth most ahead written copied reader writer
       → result ≡ part_said (length before) copied → CopiesPart left got skip depth most due written result writer
 
@@ -210,7 +211,7 @@ IsLeft most left count = ⊥
 pub record Stands (depth : ℕ) (most left : Option ℕ) (start : ℕ) (fed given : List ℕ) (copier : ItemCopier) : Type 0
   where
     pub within : EndWithin depth fed given
-    pub copied : HasCopied false depth within.part within.front copier
+    pub copied : HasCopied Any depth within.part within.front copier
     pub none : pending copier ≡ []
     pub start_is : start ≡ length within.before
     pub limit : IsLeft most left within.count

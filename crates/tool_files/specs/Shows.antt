@@ -1,6 +1,7 @@
 -- How an input is shown.
 use Rattle.std.specs.Prelude.{◌≡◌, ℕ, Bool, [], Option, None, Some, Result, Err}
 use Rattle.std.specs.declared.io.Error.{Error}
+use Rattle.ciborium_ll_grammar.specs.declared.spelling.Spelling.{Spelling}
 use Rattle.ciborium_ll.specs.Types.BufferedReader.{BufferedReader}
 use Rattle.ciborium_ll.specs.Types.Decoder.{Decoder}
 use Rattle.ciborium_ll.specs.Types.Read.{Ghosts}
@@ -44,12 +45,12 @@ module _ {I G T E W F : Type 0} (memory : Ghosts I G) (reads : Ghosts (BufferedR
   -- Items were written from the start of the input, each in a line or in lines of its own. With a `skip` or a limit they
   -- are a part of the items. With `one` it is one item, and nothing may follow it. The result has the verdict after
   -- them. For `01 f5` the lines are `1` and `true`.
-  pub record WritesInput (strict : Bool) (skip : ℕ) (most : Option ℕ) (one : Bool) (depth : ℕ) (form : Form)
+  pub record WritesInput (allowed : Spelling) (skip : ℕ) (most : Option ℕ) (one : Bool) (depth : ℕ) (form : Form)
       (reader : T) (writer : W) (result : Result (Result (Unit {0}) Verdict) F) (then_writer : W) : Type 0 where
     pub old : Decoder (BufferedReader T)
     pub new : Decoder (BufferedReader T)
     pub outcome : Result (Ending E) (JsonError E F)
-    pub begins : BeginsInput strict reader old
+    pub begins : BeginsInput allowed reader old
     pub written :
         WritesPart memory reads sink form depth skip most one BUFFER_SIZE (sides old writer) outcome
         (sides new then_writer)
@@ -84,41 +85,41 @@ DumpsAll reads depth old result = DumpsRows reads patient_fault depth old result
 
 -- The items up to a fence were dumped: one of `01 02`, if the fence stands after one item. The fence stands over the
 -- decoder's reader, and the offset goes on.
-pub record DumpsSome {T E : Type 0} (reads : Ghosts (Fence (Patient T)) E) (strict : Bool) (items depth : ℕ)
+pub record DumpsSome {T E : Type 0} (reads : Ghosts (Fence (Patient T)) E) (allowed : Spelling) (items depth : ℕ)
     (old : Decoder (Patient T)) (result : Result (Unit {0}) Verdict) : Type 0 where
   pub fence : Fence (Patient T)
   pub is_fenced : IsFenced items [] fence
   pub depth_is : fence_depth fence ≡ depth
   pub source : fence_source fence ≡ old.reader
   pub start : Decoder (Fence (Patient T))
-  pub fresh : IsFreshAs strict fence old.offset start
+  pub fresh : IsFreshAs allowed fence old.offset start
   pub rows : DumpsRows reads fenced_fault depth start result
 
 module _ {T E F : Type 0} (reads : Ghosts (Patient T) E) (fences : Ghosts (Fence (Patient T)) F) where
   -- All items were dumped, or with a limit the items up to a fence. Over `01 02` these are both, and with a limit of 1
   -- it is `01`.
-  abbrev pub DumpsRest : Bool → Option ℕ → ℕ → Decoder (Patient T) → Result (Unit {0}) Verdict → Type 0
-  DumpsRest strict None depth old result = DumpsAll reads depth old result
-  DumpsRest strict (Some items) depth old result = DumpsSome fences strict items depth old result
+  abbrev pub DumpsRest : Spelling → Option ℕ → ℕ → Decoder (Patient T) → Result (Unit {0}) Verdict → Type 0
+  DumpsRest allowed None depth old result = DumpsAll reads depth old result
+  DumpsRest allowed (Some items) depth old result = DumpsSome fences allowed items depth old result
 
   -- The items after the first `skip` items were dumped, or the result has the verdict on a fault among these. If one
   -- item of `01 02` is passed over, the row of `02` has the offset 1.
-  pub data DumpsPart (strict : Bool) (skip : ℕ) (most : Option ℕ) (depth : ℕ) (old : Decoder (Patient T))
+  pub data DumpsPart (allowed : Spelling) (skip : ℕ) (most : Option ℕ) (depth : ℕ) (old : Decoder (Patient T))
       (result : Result (Unit {0}) Verdict) : Type 0 where
     dumps_none : (error : SkipError E) (new : Decoder (Patient T))
         → StopsCounted reads skip depth BUFFER_SIZE old error new
         → result ≡ Err (unless_failed (patient_fault new.reader) (fault_said error new.offset))
-        → DumpsPart strict skip most depth old result
+        → DumpsPart allowed skip most depth old result
     dumps_rest : (between : Decoder (Patient T)) → PassesOver reads skip depth old between
-        → DumpsRest strict most depth between result → DumpsPart strict skip most depth old result
+        → DumpsRest allowed most depth between result → DumpsPart allowed skip most depth old result
 
   -- The input was dumped from its start, and the result has the verdict after the rows. After the row of `01` in `01 1c`
   -- it has `syntax 1`.
-  pub record DumpsInput (strict : Bool) (skip : ℕ) (most : Option ℕ) (depth : ℕ) (reader : T)
+  pub record DumpsInput (allowed : Spelling) (skip : ℕ) (most : Option ℕ) (depth : ℕ) (reader : T)
       (result : Result (Unit {0}) Verdict) : Type 0 where
     pub start : Patient T
     pub source : patient_source start ≡ reader
     pub none_held : patient_held start ≡ []
     pub old : Decoder (Patient T)
-    pub fresh : IsFreshAs strict start 0 old
-    pub part : DumpsPart strict skip most depth old result
+    pub fresh : IsFreshAs allowed start 0 old
+    pub part : DumpsPart allowed skip most depth old result

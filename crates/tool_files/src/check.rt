@@ -1,7 +1,6 @@
 //! The word `check`.
 
 ghost use Rattle.std.specs.Prelude.{IfSome};
-ghost use Rattle.ciborium_ll.specs.Spellings.{is_shortest};
 ghost use Rattle.tool_files.specs.Inputs.{ChecksInput, CountsItems};
 
 use crate::arguments::Options;
@@ -24,8 +23,8 @@ pub const ROOM: usize = 8192;
 /// says that a reader of std reaches the end of its bytes, since it can fail at any time. Tests try that.
 pub fn check_input<R: io::Read + Drop>(reader: R, options: Options) -> Verdict
     ensures counts { IfSome (R.remaining reader) (λ bytes. CountsItems options.skip options.items options.one
-        (is_shortest options.spelling) options.depth bytes result) }
-    ensures checks { ChecksInput ⟦<BufferedReader<'static, R> as Read>⟧ (is_shortest options.spelling) options.skip
+        options.spelling options.depth bytes result) }
+    ensures checks { ChecksInput ⟦<BufferedReader<'static, R> as Read>⟧ options.spelling options.skip
         options.items options.one options.depth reader result }
 {
     let mut ahead = [0; ROOM];

@@ -2,7 +2,6 @@
 
 ghost use Rattle.std.specs.Prelude.{◌≤◌, ◌↔◌, ℕ, List, length, IsOk, None};
 ghost use Rattle.ciborium_ll.specs.Decoding.{offset_of};
-ghost use Rattle.ciborium_ll.specs.Spellings.{is_shortest};
 ghost use Rattle.cbor_skip.specs.SkippingTold.{IsReadyToSkip};
 ghost use Rattle.cbor_dump.specs.Checking.{ReadsAsCheck};
 ghost use Rattle.cbor_dump.specs.Dumps.{AreRowsTaken};
@@ -262,7 +261,7 @@ fn dump_rows<R: io::Read + Drop, W: io::Write>(
     holder: &mut Page<'_, W>,
     options: Options,
 ) -> Result<(), Verdict>
-    ensures { DumpsInput ⟦<Patient<R> as Read>⟧ ⟦<Fence<Patient<R>> as Read>⟧ (is_shortest options.spelling)
+    ensures { DumpsInput ⟦<Patient<R> as Read>⟧ ⟦<Fence<Patient<R>> as Read>⟧ options.spelling
         options.skip options.items options.depth reader result }
 {
     let mut decoder = decoder_of(Patient::new(reader), options.spelling);
@@ -284,7 +283,7 @@ fn dump_all<R: io::Read + Drop, W: io::Write>(
     holder: &mut Page<'_, W>,
     options: Options,
 ) -> Result<(), Verdict>
-    requires alike { IsInMode (is_shortest options.spelling) decoder }
+    requires alike { IsInMode options.spelling decoder }
     ensures { DumpsAll ⟦<Patient<R> as Read>⟧ options.depth decoder result }
 {
     let (outcome, offset) = print_all(&mut decoder, holder, options);
@@ -299,7 +298,7 @@ fn dump_some<R: io::Read + Drop, W: io::Write>(
     holder: &mut Page<'_, W>,
     options: Options,
 ) -> Result<(), Verdict>
-    ensures { DumpsSome ⟦<Fence<Patient<R>> as Read>⟧ (is_shortest options.spelling) items options.depth decoder
+    ensures { DumpsSome ⟦<Fence<Patient<R>> as Read>⟧ options.spelling items options.depth decoder
         result }
 {
     let start = decoder.offset();
@@ -319,7 +318,7 @@ fn print_all<R: Read, W: io::Write>(
 ) -> (Result<R::Error, DumpError<R::Error, io::Error>>, usize)
 where
     R::Error: Drop,
-    requires alike { IsInMode (is_shortest options.spelling) decoder.old }
+    requires alike { IsInMode options.spelling decoder.old }
     ensures { PrintsRows R.Read options.depth decoder.old result.0 result.1 }
 {
     let outcome = print_rows(decoder, options.depth, options.spelling, holder);
@@ -341,11 +340,11 @@ fn print_rows<R: Read, W: io::Write>(
 where
     R::Error: Drop,
     requires shallow { depth ≤ MOST_LEVELS }
-    requires alike { IsInMode (is_shortest spelling) decoder.old }
+    requires alike { IsInMode spelling decoder.old }
     ensures exactly { (due : List ℕ) → IsReadyToSkip R.Read most_bytes decoder.old due → AreRowsTaken result
-        → (IsOk result ↔ IsSequence (is_shortest spelling) depth due) }
+        → (IsOk result ↔ IsSequence spelling depth due) }
     ensures told { (due : List ℕ) → IsReadyToSkip R.Read most_bytes decoder.old due → AreRowsTaken result
-        → FindsBehindRows (is_shortest spelling) depth due (offset_of decoder.old)
+        → FindsBehindRows spelling depth due (offset_of decoder.old)
         (dump_said result None (offset_of decoder.new)) }
     ensures reads { AreRowsTaken result → ReadsAsCheck R.Read depth decoder.old result decoder.new }
 {

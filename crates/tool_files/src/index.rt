@@ -1,7 +1,6 @@
 //! The word `check` with `--index`.
 
 ghost use Rattle.std.specs.Prelude.{◌≡◌, ◌++◌, ℕ, List, Some, OnOk, string_bytes};
-ghost use Rattle.ciborium_ll.specs.Spellings.{is_shortest};
 ghost use Rattle.tool_files.specs.Indexes.{IndexesInput, span_line};
 
 use crate::arguments::Options;
@@ -86,7 +85,7 @@ fn index_items<R: io::Read + Drop, S: Spans>(
     spans: &mut S,
     options: Options,
 ) -> Result<Verdict, S::Error>
-    ensures { IndexesInput ⟦<BufferedReader<'static, R> as Read>⟧ (is_shortest options.spelling) options.skip
+    ensures { IndexesInput ⟦<BufferedReader<'static, R> as Read>⟧ options.spelling options.skip
         options.items options.depth reader (S.taken spans.old) (S.taken spans.new) result }
 {
     let mut ahead = [0; ROOM];

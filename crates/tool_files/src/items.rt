@@ -1,6 +1,5 @@
 //! The words `diag` and `json`.
 
-ghost use Rattle.ciborium_ll.specs.Spellings.{is_shortest};
 ghost use Rattle.tool_files.specs.Shows.{WritesInput};
 
 use crate::arguments::Options;
@@ -132,7 +131,7 @@ fn write_items<R: io::Read + Drop, W: Write>(
     form: Form,
 ) -> Result<Result<(), Verdict>, W::Error>
     ensures { WritesInput ⟦<SliceReader<'static> as Read>⟧ ⟦<BufferedReader<'static, R> as Read>⟧ W.Write
-        (is_shortest options.spelling) options.skip options.items options.one options.depth form reader writer.old result
+        options.spelling options.skip options.items options.one options.depth form reader writer.old result
         writer.new }
 {
     let mut ahead = [0; ROOM];

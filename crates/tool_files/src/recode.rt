@@ -3,6 +3,7 @@
 ghost use Rattle.std.specs.Prelude.{◌≡◌, ◌+◌, ◌≤◌, ◌++◌, ℕ, List, Option as AnyOption, [], false, Some, IfNone, IsTrue};
 ghost use Rattle.std.specs.Prelude.{OnErr, OnOk, length, take};
 ghost use Rattle.ciborium_ll.specs.Limits.{MOST_LEVELS};
+ghost use Rattle.ciborium_ll_grammar.specs.declared.spelling.Spelling.TheVariants.{Any};
 ghost use Rattle.ciborium_ll_grammar.specs.Items.{AreItems};
 ghost use Rattle.ciborium_ll_streams.specs.Streams.{stream_sink};
 ghost use Rattle.tool_files.specs.Recodes.{AnswersItems, CopiesItems, TellsAll, TellsSome, end_said, fault_place};
@@ -290,7 +291,7 @@ pub fn copy_items<R: io::Read, W: io::Write>(
     ensures copies { (due written : List ℕ) → R.remaining reader ≡ Some due → W.contents writer ≡ Some written
         → CopiesItems R.remaining W.contents options.depth options.items due written result.2 result.0 result.1 }
     ensures items { (due written : List ℕ) → R.remaining reader ≡ Some due → W.contents writer ≡ Some written
-        → (count : ℕ) → AreItems false options.depth count due → AnswersItems result.2 }
+        → (count : ℕ) → AreItems Any options.depth count due → AnswersItems result.2 }
 {
     let mut writer = StdWriter::new(writer);
     let copied = copy_wanted(&mut reader, &mut writer, options.depth, options.items);

@@ -1,5 +1,5 @@
 -- A copy between a reader and a writer of std, from the copy of elements and the flush after it.
-use Rattle.std.proofs.Common.{◌≡◌, ℕ, false, ◌+◌, ◌≤◌, ◌^◌, List, [], ◌++◌, length, Option, Some, None, Result}
+use Rattle.std.proofs.Common.{◌≡◌, ℕ, ◌+◌, ◌≤◌, ◌^◌, List, [], ◌++◌, length, Option, Some, None, Result}
 use Rattle.std.proofs.Common.{Ok, Err, OnOk, refl, sym, ap, ◌∙◌, inl, inr, arith}
 use Rattle.std.specs.Io.KnownBytes.{Keeps, append_known, prepend_known}
 use Rattle.std.proofs.lemmas.List.{append-nil}
@@ -12,9 +12,10 @@ use Rattle.ciborium_ll_streams.specs.declared.streams.ReadFault.{ReadFault}
 use Rattle.ciborium_ll_streams.specs.declared.streams.WriteFault.{WriteFault}
 use Rattle.ciborium_ll_decoder.specs.declared.copy.RecodeError.{RecodeError}
 use Rattle.ciborium_ll_decoder.specs.declared.copy.RecodeError.TheVariants as r
+use Rattle.ciborium_ll_grammar.specs.declared.spelling.Spelling.TheVariants.{Any}
 use Rattle.ciborium_ll_grammar.specs.Faults.{Syntax}
 use Rattle.ciborium_ll_decoder.specs.BodyCopies.{sides}
-use Rattle.ciborium_ll_decoder.specs.Decoding.{ReadsPast, view, strict_of}
+use Rattle.ciborium_ll_decoder.specs.Decoding.{ReadsPast, view, spelling_of}
 use Rattle.ciborium_ll_recode.specs.Recoding.{CopiesElements, StopsCopy}
 use Rattle.ciborium_ll_recode.specs.RecodingTold.{IsTold, RecodesAnyhow, StopsShort}
 use Rattle.ciborium_ll_decoder.proofs.BodyLaws.{view_none}
@@ -125,9 +126,9 @@ module _ {R R' W W' E F : Type 0} (left : R → List ℕ → Type 0) (left' : R'
 
 module _ {D S E F : Type 0} (source : Reader D E) (sink : Writer S F) where
   -- If no header waits, the bytes that are due are those that the reader has ahead.
-  pub told_ahead : (old : Decoder D) (writer : S) (due written : List ℕ) → strict_of old ≡ false → old.waiting ≡ None
+  pub told_ahead : (old : Decoder D) (writer : S) (due written : List ℕ) → spelling_of old ≡ Any → old.waiting ≡ None
       → source.ahead old.reader ≡ Some due → sink.written writer ≡ Some written
-      → IsTold source sink false (sides old writer) due written
+      → IsTold source sink Any (sides old writer) due written
   told_ahead old writer due written lenient none ahead output =
       record {
         mode = lenient;
@@ -178,7 +179,7 @@ module _ {D S E F : Type 0} (source : Reader D E) (sink : Writer S F) where
     -- The copy of raw elements follows for each answer.
     pub raw_any : (outcome : Result (Unit {0}) (RecodeError E F))
         → CopiesElements source sink count 64 (sides old writer) outcome (sides new writer')
-        → RecodesAnyhow source sink false count 64 due written old outcome (sides new writer')
+        → RecodesAnyhow source sink Any count 64 due written old outcome (sides new writer')
         → CopiesRaw (Tells source.ahead) (Tells sink.written) count due written outcome new.reader writer'
     raw_any (Ok done) copied told = record {
       front = told.front;

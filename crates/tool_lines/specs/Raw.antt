@@ -2,10 +2,11 @@
 --
 -- `left reader bytes` says that the reader still has these bytes, and `got writer bytes` that the writer has these
 -- bytes.
-use Rattle.std.specs.Prelude.{◌≡◌, ℕ, false, ◌+◌, ◌≤◌, ◌⊎◌, List, ◌++◌, length, drop, Option, Some, Result, Ok, Err}
+use Rattle.std.specs.Prelude.{◌≡◌, ℕ, ◌+◌, ◌≤◌, ◌⊎◌, List, ◌++◌, length, drop, Option, Some, Result, Ok, Err}
 use Rattle.ciborium_ll_decoder.specs.declared.dec.Error.TheVariants as e
 use Rattle.ciborium_ll_decoder.specs.declared.copy.RecodeError.{RecodeError}
 use Rattle.ciborium_ll_decoder.specs.declared.copy.RecodeError.TheVariants as r
+use Rattle.ciborium_ll_grammar.specs.declared.spelling.Spelling.TheVariants.{Any}
 use Rattle.ciborium_ll_grammar.specs.Elements.{spelling}
 use Rattle.ciborium_ll_grammar.specs.Faults.{Syntax, BeginsWithElements, HasFault}
 use Rattle.ciborium_ll_decoder.specs.Decoding.{offset_limit}
@@ -57,7 +58,7 @@ module _ {R W : Type 0} (left : R → List ℕ → Type 0) (got : W → List ℕ
   -- A syntax stopped the copy. The writer got the bytes that a copy writes before that fault, and the bytes after the
   -- fault are left. For two elements of `82 1c 05`, it got `82`, and `05` is left.
   pub record MeetsSyntax (count place : ℕ) (due written : List ℕ) (reader : R) (writer : W) : Type 0 where
-    pub fault : HasFault false count due
+    pub fault : HasFault Any count due
     pub answered : fault.answer ≡ Syntax place
     pub output : got writer (written ++ fault.written)
     pub rest : left reader (drop fault.consumed fault.ahead)
@@ -65,7 +66,7 @@ module _ {R W : Type 0} (left : R → List ℕ → Type 0) (got : W → List ℕ
   -- All elements were copied. The writer got their shortest spelling, and the bytes after them are left. For one
   -- element of `18 17 05`, it got `17`, and `05` is left.
   pub record CopiesCount (count : ℕ) (due written : List ℕ) (reader : R) (writer : W) : Type 0 where
-    pub front : BeginsWithElements false count due
+    pub front : BeginsWithElements Any count due
     pub output : got writer (written ++ spelling front.marks)
     pub rest : left reader front.rest
 

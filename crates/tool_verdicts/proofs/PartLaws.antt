@@ -3,6 +3,7 @@ use Rattle.std.proofs.lemmas.Bool.Decides.{nat_tests}
 use Rattle.std.proofs.Common.{◌≡◌, ℕ, ◌+◌, ◌-◌, Bool, List, [], ◌∷◌, ◌++◌, length, Option, Some, None, Result, Ok}
 use Rattle.std.proofs.Common.{Err, append-nil, append_assoc}
 use Rattle.std.proofs.Common.{inl, inr, sym, ap, subst, ◌∙◌, arith, length-append}
+use Rattle.ciborium_ll.specs.Types.Spelling.{Spelling}
 use Rattle.ciborium_ll.specs.Types.Read.{Ghosts}
 use Rattle.ciborium_ll.specs.Types.Decoder.{Decoder}
 use Rattle.ciborium_ll.specs.Types.Error.TheVariants as e
@@ -10,14 +11,14 @@ use Rattle.ciborium_ll.specs.Items.{AreItems, no_items}
 use Rattle.ciborium_ll.proofs.DecodingLaws.{ReadsPast-none, ReadsPast-then}
 use Rattle.cbor_skip.specs.declared.SkipError.{SkipError}
 use Rattle.cbor_skip.specs.declared.SkipError.TheVariants as s
-use Rattle.cbor_skip.specs.Skipping.{ReadsCounted, ReadsItem, strictness}
+use Rattle.cbor_skip.specs.Skipping.{ReadsCounted, ReadsItem, allowed_by}
 use Rattle.cbor_skip.specs.SkippingTold.{IsReadyToSkip, SkipsTold}
 use Rattle.cbor_skip.proofs.ItemSteps.{items_item}
 use Rattle.cbor_skip.proofs.StrictnessLaws.{items_looser, passed_keeps}
 use Rattle.cbor_dump.specs.Counted.{SkipsFewItems}
 use Rattle.cbor_dump.specs.Sequences.{IsEnd, ReadsItems}
 use Rattle.cbor_dump.proofs.SequenceLaws.{behind, items_ready, met_behind, no_byte}
-use Rattle.ciborium_ll.specs.Decoding.{strict_of}
+use Rattle.ciborium_ll.specs.Decoding.{spelling_of}
 use Rattle.tool_verdicts.specs.Checking.{StopsAsNamed, StopsBehind, fault_said}
 use Rattle.tool_verdicts.specs.Parts.{AddsSpans, AreSpans, EndsAt, EndsSome, FindsSome, IndexesAll, IndexesItems, IsAtMost, IsBelow, ReadsSpans, SaysSome, ended}
 use Rattle.tool_verdicts.specs.Parts.{FindsPart, FindsRest, enough, faulty, found, found_rest, more_spans, no_spans, stops}
@@ -41,12 +42,13 @@ least_of None = tt
 least_of (Some most) = omega arith
 
 -- Bytes with places are as many items.
-spans_items : (strict : Bool) (depth start : ℕ) (spans : List Span) (bytes : List ℕ)
-    → AreSpans strict depth start spans bytes → AreItems strict depth (length spans) bytes
-spans_items strict depth start spans bytes no_spans = no_items
-spans_items strict depth start spans bytes (more_spans {spans = front} {bytes = before} {item = item} span are is at len) =
-    subst (λ (n : ℕ). AreItems strict depth n (before ++ item)) (omega (arith, length-append front (span ∷ [])))
-    (items_item strict depth (length front) before item (spans_items strict depth start front before are) is)
+spans_items : (allowed : Spelling) (depth start : ℕ) (spans : List Span) (bytes : List ℕ)
+    → AreSpans allowed depth start spans bytes → AreItems allowed depth (length spans) bytes
+spans_items allowed depth start spans bytes no_spans = no_items
+spans_items allowed depth start spans bytes (more_spans {spans = front} {bytes = before} {item = item} span are is at
+    len) =
+    subst (λ (n : ℕ). AreItems allowed depth n (before ++ item)) (omega (arith, length-append front (span ∷ [])))
+    (items_item allowed depth (length front) before item (spans_items allowed depth start front before are) is)
 
 module _ {R E : Type 0} (source : Ghosts R E) where
   pub spans_none : (depth : ℕ) (old : Decoder R) → ReadsSpans source depth old [] old
@@ -59,7 +61,7 @@ module _ {R E : Type 0} (source : Ghosts R E) where
   spans_one_more depth old now new spans span so_far item at len = record {
     bytes = so_far.bytes ++ item.item;
     are = more_spans span so_far.are
-        (items_looser (strictness old) (strictness now) (passed_keeps source so_far.passed) depth 1 item.item
+        (items_looser (allowed_by old) (allowed_by now) (passed_keeps source so_far.passed) depth 1 item.item
         item.is_item)
         (at ∙ so_far.passed.offset) (omega (arith, len, item.passed.offset));
     passed = ReadsPast-then source old now new so_far.bytes item.item so_far.passed item.passed;
@@ -70,7 +72,7 @@ module _ {R E : Type 0} (source : Ghosts R E) where
       → ReadsItems source depth (length spans) old new
   read_items depth old new spans reads = record {
     bytes = reads.bytes;
-    are_items = spans_items (strictness old) depth old.offset spans reads.bytes reads.are;
+    are_items = spans_items (allowed_by old) depth old.offset spans reads.bytes reads.are;
     passed = reads.passed;
   }
 
@@ -83,7 +85,7 @@ module _ {R E : Type 0} (source : Ghosts R E) where
     between = all.between;
     reads = record {
       bytes = all.reads.bytes;
-      are_items = spans_items (strictness old) depth old.offset all.spans all.reads.bytes all.reads.are;
+      are_items = spans_items (allowed_by old) depth old.offset all.spans all.reads.bytes all.reads.are;
       passed = all.reads.passed;
     };
     ends = all.ends;
@@ -94,7 +96,7 @@ module _ {R E : Type 0} (source : Ghosts R E) where
   module _ (depth room : ℕ) (old : Decoder R) (due : List ℕ) (ready : IsReadyToSkip source room old due) where
     -- The end of the read consumed nothing, so no byte was left.
     at_end : (ahead : List ℕ) (between new : Decoder R) (error : SkipError E)
-        → SkipsTold source (strict_of old) depth ahead between (Err error) new → IsEnd error between.offset new.offset
+        → SkipsTold source (spelling_of old) depth ahead between (Err error) new → IsEnd error between.offset new.offset
         → ahead ≡ []
     at_end ahead between new (s.Break at) met still = absurd still
     at_end ahead between new (s.Deep at) met still = absurd still
@@ -107,7 +109,7 @@ module _ {R E : Type 0} (source : Ghosts R E) where
     ends_found : (most : Option ℕ) (count : ℕ) (between new : Decoder R) (verdict : Verdict)
         (reads : ReadsItems source depth count old between)
         → EndsSome source depth room most count (length reads.bytes) between verdict new
-        → FindsSome (strict_of old) depth most due old.offset verdict
+        → FindsSome (spelling_of old) depth most due old.offset verdict
     ends_found most count between new verdict reads (enough is same said) =
         let c = behind source depth room old due ready count between reads in
         record {
@@ -138,27 +140,28 @@ module _ {R E : Type 0} (source : Ghosts R E) where
           ahead = c.ahead;
           are_items = items_ready source depth room old due ready count between reads;
           is = c.parts;
-          ends = faulty below (subst (λ (z : Verdict). StopsAsNamed (strict_of old) depth c.ahead
+          ends = faulty below (subst (λ (z : Verdict). StopsAsNamed (spelling_of old) depth c.ahead
               (old.offset + length reads.bytes) z) (sym named.1)
-              (fault_met source (strict_of old) depth c.ahead between new (old.offset + length reads.bytes) error met
+              (fault_met source (spelling_of old) depth c.ahead between new (old.offset + length reads.bytes) error met
               reads.passed.offset));
         }
 
     pub some_found : (most : Option ℕ) (verdict : Verdict) (new : Decoder R)
-        → SaysSome source depth room most old verdict new → FindsSome (strict_of old) depth most due old.offset verdict
+        → SaysSome source depth room most old verdict new
+        → FindsSome (spelling_of old) depth most due old.offset verdict
     some_found most verdict new says = ends_found most says.count says.between new verdict says.reads says.ends
 
   -- The items before the fault are fewer than those that are passed over.
   pub few_found : (depth skip : ℕ) (due : List ℕ) (old new : Decoder R) (error : SkipError E)
       (few : SkipsFewItems source skip depth due old error new)
-      → StopsBehind (strict_of old) depth few.few due old.offset (fault_said error new.offset)
+      → StopsBehind (spelling_of old) depth few.few due old.offset (fault_said error new.offset)
   few_found depth skip due old new error few = record {
     before = few.before;
     ahead = few.ahead;
     are_items = few.are_items;
     is = few.is;
     stops =
-        fault_met source (strict_of old) depth few.ahead few.between new (old.offset + length few.before) error
+        fault_met source (spelling_of old) depth few.ahead few.between new (old.offset + length few.before) error
         few.met few.at;
   }
 
@@ -205,13 +208,13 @@ pub rest_found : {R E : Type 0} (source : Ghosts R E) (skip : ℕ) (most : Optio
     (old between : Decoder R) (due : List ℕ) → IsReadyToSkip source room old due
     → ReadsCounted source skip depth old between → (verdict : Verdict)
     → ((ahead : List ℕ) → IsReadyToSkip source room between ahead
-    → FindsRest most one (strict_of between) depth ahead between.offset verdict)
-    → FindsPart skip most one (strict_of old) depth due old.offset verdict
+    → FindsRest most one (spelling_of between) depth ahead between.offset verdict)
+    → FindsPart skip most one (spelling_of old) depth due old.offset verdict
 unfolding counted_items
 rest_found source skip most one depth room old between due ready counts verdict finds =
     let reads = counted_items source depth skip old between counts in
     let c = behind source depth room old due ready skip between reads in
     found_rest counts.items c.ahead (items_ready source depth room old due ready skip between reads) c.parts
-    (subst (λ (n : ℕ). FindsRest most one (strict_of old) depth c.ahead n verdict) counts.passed.offset
-    (subst (λ (b : Bool). FindsRest most one b depth c.ahead between.offset verdict) counts.passed.mode
+    (subst (λ (n : ℕ). FindsRest most one (spelling_of old) depth c.ahead n verdict) counts.passed.offset
+    (subst (λ (b : Spelling). FindsRest most one b depth c.ahead between.offset verdict) counts.passed.mode
     (finds c.ahead c.still_ready)))

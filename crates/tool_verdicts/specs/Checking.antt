@@ -2,6 +2,7 @@
 use Rattle.std.specs.Prelude.{◌≡◌, ℕ, ◌+◌, Bool, true, false, List, [], ◌++◌, length, Option, Some, None}
 use Rattle.std.specs.Prelude.{Result, Ok, Err}
 use Rattle.std.specs.declared.io.Error.{Error}
+use Rattle.ciborium_ll.specs.Types.Spelling.{Spelling}
 use Rattle.ciborium_ll.specs.Types.Read.{Ghosts}
 use Rattle.ciborium_ll.specs.Types.ReadFault.{ReadFault}
 use Rattle.ciborium_ll.specs.Types.ReadFault.TheVariants as r
@@ -115,56 +116,59 @@ FoundWell verdict = ⊥
 
 -- The bytes are as wanted: with `--one` one item, otherwise a sequence of items (RFC 8742, 2), and with `--strict` in
 -- their shortest spelling (RFC 7049, 3.9). `01 80` is as wanted without `--one` only.
-abbrev pub IsWanted : Bool → Bool → ℕ → List ℕ → Type 0
-IsWanted true strict depth due = IsItem strict depth due
-IsWanted false strict depth due = IsSequence strict depth due
+abbrev pub IsWanted : Bool → Spelling → ℕ → List ℕ → Type 0
+IsWanted true allowed depth due = IsItem allowed depth due
+IsWanted false allowed depth due = IsSequence allowed depth due
 
--- `StopsAsNamed strict depth due start verdict`: these bytes begin at the offset `start`, and something stops the read
+-- `StopsAsNamed allowed depth due start verdict`: these bytes begin at the offset `start`, and something stops the read
 -- of an item there. The verdict names it, with its offset (RFC 7049, 2.1 to 2.4). `1c` at the offset 0 is `syntax 0`.
-abbrev pub StopsAsNamed : Bool → ℕ → List ℕ → ℕ → Verdict → Type 0
-StopsAsNamed strict depth due start (v.Syntax place) = (fault : HasItemFault strict depth due) × (at : ℕ)
+abbrev pub StopsAsNamed : Spelling → ℕ → List ℕ → ℕ → Verdict → Type 0
+StopsAsNamed allowed depth due start (v.Syntax place) = (fault : HasItemFault allowed depth due) × (at : ℕ)
     × (fault.answer ≡ Syntax at) × (place ≡ start + at)
-StopsAsNamed strict depth due start (v.Short place) = (fault : HasItemFault strict depth due)
+StopsAsNamed allowed depth due start (v.Short place) = (fault : HasItemFault allowed depth due)
     × (fault.answer ≡ Short) × (place ≡ start + length fault.before + fault.consumed)
-StopsAsNamed strict depth due start (v.Break place) = (fault : HasEarlyBreak strict depth due) × (place ≡ start + length fault.before)
-StopsAsNamed strict depth due start (v.Deep place) = (fault : HasDeepNest strict depth due) × (place ≡ start + length fault.before)
-StopsAsNamed strict depth due start verdict = ⊥
+StopsAsNamed allowed depth due start (v.Break place) = (fault : HasEarlyBreak allowed depth due)
+    × (place ≡ start + length fault.before)
+StopsAsNamed allowed depth due start (v.Deep place) = (fault : HasDeepNest allowed depth due)
+    × (place ≡ start + length fault.before)
+StopsAsNamed allowed depth due start verdict = ⊥
 
 -- `count` items, and bytes after them in which the read of a further item stops. The verdict names the fault. `01 1c`
 -- from the offset 0 is one item, and `syntax 1`.
-pub record StopsBehind (strict : Bool) (depth count : ℕ) (due : List ℕ) (start : ℕ) (verdict : Verdict) : Type 0 where
-  pub before : List ℕ
-  pub ahead : List ℕ
-  pub are_items : AreItems strict depth count before
-  pub is : due ≡ before ++ ahead
-  pub stops : StopsAsNamed strict depth ahead (start + length before) verdict
+pub record StopsBehind (allowed : Spelling) (depth count : ℕ) (due : List ℕ) (start : ℕ) (verdict : Verdict) : Type 0
+  where
+    pub before : List ℕ
+    pub ahead : List ℕ
+    pub are_items : AreItems allowed depth count before
+    pub is : due ≡ before ++ ahead
+    pub stops : StopsAsNamed allowed depth ahead (start + length before) verdict
 
 -- One item, and more bytes after it from this offset on. In `01 80`, which begins at the offset 0, they follow at 1.
-pub record IsFollowed (strict : Bool) (depth : ℕ) (due : List ℕ) (start place : ℕ) : Type 0 where
-  pub front : BeginsWithItem strict depth due
+pub record IsFollowed (allowed : Spelling) (depth : ℕ) (due : List ℕ) (start place : ℕ) : Type 0 where
+  pub front : BeginsWithItem allowed depth due
   pub some : front.rest ≡ [] → ⊥
   pub at : place ≡ start + length front.item
 
 -- The verdict on a sequence from this offset on: all its items and bytes, or the first fault. `01 80` has 2 items in 2
 -- bytes.
-abbrev pub FindsAll : Bool → ℕ → List ℕ → ℕ → Verdict → Type 0
-FindsAll strict depth due start (v.Well items bytes) = AreItems strict depth items due × (bytes ≡ length due)
-FindsAll strict depth due start verdict = (count : ℕ) × StopsBehind strict depth count due start verdict
+abbrev pub FindsAll : Spelling → ℕ → List ℕ → ℕ → Verdict → Type 0
+FindsAll allowed depth due start (v.Well items bytes) = AreItems allowed depth items due × (bytes ≡ length due)
+FindsAll allowed depth due start verdict = (count : ℕ) × StopsBehind allowed depth count due start verdict
 
 -- The verdict after the rows of a dump: the end of a sequence, or its first fault. For `01 02` it is the end, and for
 -- `01 1c` from the offset 0 on it is `Syntax(1)`.
-abbrev pub FindsBehindRows : Bool → ℕ → List ℕ → ℕ → Result (Unit {0}) Verdict → Type 0
-FindsBehindRows strict depth due start (Ok done) = IsSequence strict depth due
-FindsBehindRows strict depth due start (Err verdict) = (count : ℕ) × StopsBehind strict depth count due start verdict
+abbrev pub FindsBehindRows : Spelling → ℕ → List ℕ → ℕ → Result (Unit {0}) Verdict → Type 0
+FindsBehindRows allowed depth due start (Ok done) = IsSequence allowed depth due
+FindsBehindRows allowed depth due start (Err verdict) = (count : ℕ) × StopsBehind allowed depth count due start verdict
 
 -- The verdict if one item is wanted. For `01 80` from the offset 0 on it is `More(1)`.
-abbrev pub FindsOne : Bool → ℕ → List ℕ → ℕ → Verdict → Type 0
-FindsOne strict depth due start (v.Well items bytes) = (items ≡ 1) × IsItem strict depth due × (bytes ≡ length due)
-FindsOne strict depth due start (v.More place) = IsFollowed strict depth due start place
-FindsOne strict depth due start verdict = StopsBehind strict depth 0 due start verdict
+abbrev pub FindsOne : Spelling → ℕ → List ℕ → ℕ → Verdict → Type 0
+FindsOne allowed depth due start (v.Well items bytes) = (items ≡ 1) × IsItem allowed depth due × (bytes ≡ length due)
+FindsOne allowed depth due start (v.More place) = IsFollowed allowed depth due start place
+FindsOne allowed depth due start verdict = StopsBehind allowed depth 0 due start verdict
 
 -- The verdict on one item or on a sequence, as is wanted. From the offset 0 on, `01 02` has 2 items, or gives `More(1)`
 -- if one item is wanted.
-abbrev pub Finds : Bool → Bool → ℕ → List ℕ → ℕ → Verdict → Type 0
-Finds true strict depth due start verdict = FindsOne strict depth due start verdict
-Finds false strict depth due start verdict = FindsAll strict depth due start verdict
+abbrev pub Finds : Bool → Spelling → ℕ → List ℕ → ℕ → Verdict → Type 0
+Finds true allowed depth due start verdict = FindsOne allowed depth due start verdict
+Finds false allowed depth due start verdict = FindsAll allowed depth due start verdict

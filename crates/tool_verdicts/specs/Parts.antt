@@ -2,12 +2,13 @@
 -- of them. The places of items, as an index has them.
 use Rattle.std.specs.Prelude.{◌≡◌, ℕ, ◌+◌, ◌<◌, ◌≤◌, ◌⊎◌, Bool, List, [], ◌∷◌, ◌++◌, length, Option, Some, None}
 use Rattle.std.specs.Prelude.{Result, Ok, Err}
+use Rattle.ciborium_ll.specs.Types.Spelling.{Spelling}
 use Rattle.ciborium_ll.specs.Types.Read.{Ghosts}
 use Rattle.ciborium_ll.specs.Types.Decoder.{Decoder}
 use Rattle.ciborium_ll.specs.Items.{AreItems, IsItem}
 use Rattle.ciborium_ll.specs.Decoding.{ReadsPast}
 use Rattle.cbor_skip.specs.declared.SkipError.{SkipError}
-use Rattle.cbor_skip.specs.Skipping.{ReadsCounted, SkipsItem, StopsCounted, strictness}
+use Rattle.cbor_skip.specs.Skipping.{ReadsCounted, SkipsItem, StopsCounted, allowed_by}
 use Rattle.cbor_dump.specs.Sequences.{IsEnd, ReadsItems}
 use Rattle.tool_verdicts.specs.Checking.{Finds, SaysVerdict, StopsAsNamed, StopsBehind, fault_said}
 use Rattle.tool_verdicts.specs.declared.part.Span.{Span}
@@ -40,11 +41,11 @@ AddsSpans (Some old) (Some new) spans = new ≡ old ++ spans
 
 -- The bytes are items, one after the other, and these are their offsets and lengths. The first byte has the offset
 -- `start`. The items of `01 81 02` from 5 on have the places 5 and 6, and the lengths 1 and 2.
-pub data AreSpans (strict : Bool) (depth start : ℕ) : List Span → List ℕ → Type 0 where
-  no_spans : AreSpans strict depth start [] []
-  more_spans : {spans : List Span} {bytes item : List ℕ} (span : Span) → AreSpans strict depth start spans bytes
-      → IsItem strict depth item → span.offset ≡ start + length bytes → span.len ≡ length item
-      → AreSpans strict depth start (spans ++ span ∷ []) (bytes ++ item)
+pub data AreSpans (allowed : Spelling) (depth start : ℕ) : List Span → List ℕ → Type 0 where
+  no_spans : AreSpans allowed depth start [] []
+  more_spans : {spans : List Span} {bytes item : List ℕ} (span : Span) → AreSpans allowed depth start spans bytes
+      → IsItem allowed depth item → span.offset ≡ start + length bytes → span.len ≡ length item
+      → AreSpans allowed depth start (spans ++ span ∷ []) (bytes ++ item)
 
 module _ {R E : Type 0} (source : Ghosts R E) where
   -- ---- reads
@@ -58,7 +59,7 @@ module _ {R E : Type 0} (source : Ghosts R E) where
   -- Items were read, and these are their places. After `01 81 02` from the offset 0 on they are 0 and 1.
   pub record ReadsSpans (depth : ℕ) (old : Decoder R) (spans : List Span) (new : Decoder R) : Type 0 where
     pub bytes : List ℕ
-    pub are : AreSpans (strictness old) depth old.offset spans bytes
+    pub are : AreSpans (allowed_by old) depth old.offset spans bytes
     pub passed : ReadsPast source old bytes new
 
   -- The verdict after this many items of this many bytes: no more are wanted, and nothing more was read. Or the read of
@@ -136,37 +137,37 @@ module _ {R E : Type 0} (source : Ghosts R E) where
 
 -- The verdict after this many items. Their bytes are `before`, and `ahead` follows. If two items of `01 02 1c` are
 -- wanted, it is `Well` with 2 items in 2 bytes. Without a limit it is `Syntax(2)`.
-pub data EndsFound (strict : Bool) (depth : ℕ) (most : Option ℕ) (count : ℕ) (before ahead : List ℕ) (start : ℕ)
+pub data EndsFound (allowed : Spelling) (depth : ℕ) (most : Option ℕ) (count : ℕ) (before ahead : List ℕ) (start : ℕ)
     (verdict : Verdict) : Type 0 where
   found : most ≡ Some count → verdict ≡ v.Well count (length before)
-      → EndsFound strict depth most count before ahead start verdict
+      → EndsFound allowed depth most count before ahead start verdict
   ended : IsBelow most count → ahead ≡ [] → verdict ≡ v.Well count (length before)
-      → EndsFound strict depth most count before ahead start verdict
-  faulty : IsBelow most count → StopsAsNamed strict depth ahead (start + length before) verdict
-      → EndsFound strict depth most count before ahead start verdict
+      → EndsFound allowed depth most count before ahead start verdict
+  faulty : IsBelow most count → StopsAsNamed allowed depth ahead (start + length before) verdict
+      → EndsFound allowed depth most count before ahead start verdict
 
 -- The verdict on at most `most` items from this offset on. One item of `01 ff` is `Well` with 1 item in 1 byte.
-pub record FindsSome (strict : Bool) (depth : ℕ) (most : Option ℕ) (due : List ℕ) (start : ℕ) (verdict : Verdict)
+pub record FindsSome (allowed : Spelling) (depth : ℕ) (most : Option ℕ) (due : List ℕ) (start : ℕ) (verdict : Verdict)
     : Type 0 where
   pub count : ℕ
   pub before : List ℕ
   pub ahead : List ℕ
-  pub are_items : AreItems strict depth count before
+  pub are_items : AreItems allowed depth count before
   pub is : due ≡ before ++ ahead
-  pub ends : EndsFound strict depth most count before ahead start verdict
+  pub ends : EndsFound allowed depth most count before ahead start verdict
 
 -- The verdict without a limit is that on one item or on a sequence, and otherwise that on some items. On `01 ff` it is
 -- `Break(1)`, and with a limit of 1 `Well` with 1 item.
-abbrev pub FindsRest : Option ℕ → Bool → Bool → ℕ → List ℕ → ℕ → Verdict → Type 0
-FindsRest None one strict depth due start verdict = Finds one strict depth due start verdict
-FindsRest (Some most) one strict depth due start verdict = FindsSome strict depth (Some most) due start verdict
+abbrev pub FindsRest : Option ℕ → Bool → Spelling → ℕ → List ℕ → ℕ → Verdict → Type 0
+FindsRest None one allowed depth due start verdict = Finds one allowed depth due start verdict
+FindsRest (Some most) one allowed depth due start verdict = FindsSome allowed depth (Some most) due start verdict
 
 -- The verdict on the bytes after the first `skip` items, or the first fault among these. In `01 ff` one item is passed
 -- over: `Break(1)`. In `01` two items are to be passed over: `Short(1)`.
-pub data FindsPart (skip : ℕ) (most : Option ℕ) (one strict : Bool) (depth : ℕ) (due : List ℕ) (start : ℕ)
+pub data FindsPart (skip : ℕ) (most : Option ℕ) (one : Bool) (allowed : Spelling) (depth : ℕ) (due : List ℕ) (start : ℕ)
     (verdict : Verdict) : Type 0 where
-  found_few : {count : ℕ} → count < skip → StopsBehind strict depth count due start verdict
-      → FindsPart skip most one strict depth due start verdict
-  found_rest : (before ahead : List ℕ) → AreItems strict depth skip before → due ≡ before ++ ahead
-      → FindsRest most one strict depth ahead (start + length before) verdict
-      → FindsPart skip most one strict depth due start verdict
+  found_few : {count : ℕ} → count < skip → StopsBehind allowed depth count due start verdict
+      → FindsPart skip most one allowed depth due start verdict
+  found_rest : (before ahead : List ℕ) → AreItems allowed depth skip before → due ≡ before ++ ahead
+      → FindsRest most one allowed depth ahead (start + length before) verdict
+      → FindsPart skip most one allowed depth due start verdict

@@ -1,9 +1,8 @@
 //! The verdict of a check on an input.
 
 ghost use Rattle.std.specs.Prelude.{◌≡◌, ◌≤◌, ◌↔◌, ℕ, List};
-ghost use Rattle.ciborium_ll.specs.Decoding.{IsFreshAs, offset_of, strict_of};
+ghost use Rattle.ciborium_ll.specs.Decoding.{IsFreshAs, offset_of, spelling_of};
 ghost use Rattle.ciborium_ll.specs.Items.{IsItem};
-ghost use Rattle.ciborium_ll.specs.Spellings.{is_shortest};
 ghost use Rattle.cbor_skip.specs.SkippingTold.{IsReadyToSkip};
 ghost use Rattle.cbor_dump.specs.Sequences.{IsSequence};
 ghost use Rattle.tool_verdicts.specs.Checking.{Finds, FindsAll, FindsOne, IsWanted, FoundWell, SaysVerdict, SaysItems, SaysOne};
@@ -23,7 +22,7 @@ pub const BUFFER_SIZE: usize = 512;
 
 /// Makes a decoder of this spelling at the start of a reader's bytes.
 pub fn decoder_of<R: Read>(reader: R, spelling: Spelling) -> Decoder<R>
-    ensures { IsFreshAs (is_shortest spelling) reader 0 result }
+    ensures { IsFreshAs spelling reader 0 result }
 {
     Decoder::with_spelling(reader, spelling, 0)
 }
@@ -60,9 +59,9 @@ where
     R::Error: Drop,
     requires { depth ≤ MOST_LEVELS }
     ensures exactly { (due : List ℕ) → IsReadyToSkip R.Read BUFFER_SIZE decoder.old due
-        → (FoundWell result ↔ IsWanted one (strict_of decoder.old) depth due) }
+        → (FoundWell result ↔ IsWanted one (spelling_of decoder.old) depth due) }
     ensures told { (due : List ℕ) → IsReadyToSkip R.Read BUFFER_SIZE decoder.old due
-        → Finds one (strict_of decoder.old) depth due (offset_of decoder.old) result }
+        → Finds one (spelling_of decoder.old) depth due (offset_of decoder.old) result }
     ensures says { SaysVerdict R.Read one depth BUFFER_SIZE decoder.old result decoder.new }
 {
     if one {
@@ -79,9 +78,9 @@ where
     requires { depth ≤ MOST_LEVELS }
     ensures says { SaysItems R.Read depth BUFFER_SIZE decoder.old result decoder.new }
     ensures exactly { (due : List ℕ) → IsReadyToSkip R.Read BUFFER_SIZE decoder.old due
-        → (FoundWell result ↔ IsSequence (strict_of decoder.old) depth due) }
+        → (FoundWell result ↔ IsSequence (spelling_of decoder.old) depth due) }
     ensures told { (due : List ℕ) → IsReadyToSkip R.Read BUFFER_SIZE decoder.old due
-        → FindsAll (strict_of decoder.old) depth due (offset_of decoder.old) result }
+        → FindsAll (spelling_of decoder.old) depth due (offset_of decoder.old) result }
 {
     let mut buffer = [0; BUFFER_SIZE];
     let answer = check(decoder, depth, &mut buffer);
@@ -108,9 +107,9 @@ where
     requires { depth ≤ MOST_LEVELS }
     ensures says { SaysOne R.Read depth BUFFER_SIZE decoder.old result decoder.new }
     ensures exactly { (due : List ℕ) → IsReadyToSkip R.Read BUFFER_SIZE decoder.old due
-        → (FoundWell result ↔ IsItem (strict_of decoder.old) depth due) }
+        → (FoundWell result ↔ IsItem (spelling_of decoder.old) depth due) }
     ensures told { (due : List ℕ) → IsReadyToSkip R.Read BUFFER_SIZE decoder.old due
-        → FindsOne (strict_of decoder.old) depth due (offset_of decoder.old) result }
+        → FindsOne (spelling_of decoder.old) depth due (offset_of decoder.old) result }
 {
     let mut buffer = [0; BUFFER_SIZE];
     let answer = check_one(decoder, depth, &mut buffer);

@@ -1,7 +1,7 @@
 //! The verdict on a part of a sequence: on the items after the first ones, and on at most a number of them.
 
 ghost use Rattle.std.specs.Prelude.{◌≡◌, ◌≤◌, ◌↔◌, ℕ, List, Option as AnyOption, [], ◌∷◌, IsTrue, Some, OnErr, OnOk};
-ghost use Rattle.ciborium_ll.specs.Decoding.{offset_of, strict_of};
+ghost use Rattle.ciborium_ll.specs.Decoding.{offset_of, spelling_of};
 ghost use Rattle.ciborium_ll.specs.Limits.{MOST_LEVELS};
 ghost use Rattle.cbor_skip.specs.SkippingTold.{IsReadyToSkip};
 ghost use Rattle.tool_verdicts.specs.Parts.{AddsSpans, EndsAt, FindsPart, FindsSome, IndexesItems, IndexesPart, SaysPart};
@@ -78,7 +78,7 @@ where
     R::Error: Drop,
     requires { depth ≤ MOST_LEVELS }
     ensures told { (due : List ℕ) → IsReadyToSkip R.Read BUFFER_SIZE decoder.old due
-        → FindsPart skip most one (strict_of decoder.old) depth due (offset_of decoder.old) result }
+        → FindsPart skip most one (spelling_of decoder.old) depth due (offset_of decoder.old) result }
     ensures says { SaysPart R.Read skip most one depth BUFFER_SIZE decoder.old result decoder.new }
 {
     let mut buffer = [0; BUFFER_SIZE];
@@ -97,7 +97,7 @@ where
     R::Error: Drop,
     requires { depth ≤ MOST_LEVELS }
     ensures told { (due : List ℕ) → IsReadyToSkip R.Read BUFFER_SIZE decoder.old due
-        → FindsSome (strict_of decoder.old) depth most due (offset_of decoder.old) result }
+        → FindsSome (spelling_of decoder.old) depth most due (offset_of decoder.old) result }
     ensures says { SaysSome R.Read depth BUFFER_SIZE most decoder.old result decoder.new }
 {
     match index(decoder, most, depth, &mut Unseen) {

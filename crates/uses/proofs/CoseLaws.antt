@@ -1,18 +1,20 @@
 -- Laws of the bytes that each call takes.
 use Rattle.std.proofs.Common.{◌≡◌, ℕ, ◌+◌, List, [], ◌∷◌, ◌++◌, length, Option, Some, None}
-use Rattle.std.proofs.Common.{Bool, ◌-◌}
-use Rattle.std.proofs.Common.{refl, sym, subst, ◌∙◌, arith, length-append, true}
+use Rattle.std.proofs.Common.{◌-◌}
+use Rattle.std.proofs.Common.{refl, sym, subst, ◌∙◌, arith, length-append}
 use Rattle.std.proofs.KnownBytes.{Consumes-trans}
+use Rattle.ciborium_ll_grammar.specs.declared.spelling.Spelling.{Spelling}
+use Rattle.ciborium_ll_grammar.specs.declared.spelling.Spelling.TheVariants.{Shortest}
 use Rattle.ciborium_ll.specs.Types.Read.{Ghosts}
 use Rattle.ciborium_ll.specs.Types.Header.{Header}
 use Rattle.ciborium_ll.specs.Types.Header.TheVariants as h
 use Rattle.ciborium_ll.specs.Types.Decoder.{Decoder}
 use Rattle.ciborium_ll.specs.Title.{shortest_title}
 use Rattle.ciborium_ll.specs.Items.{Completes, IsItem}
-use Rattle.ciborium_ll.specs.Decoding.{view, IsSteady, ReadsPast, PullsTitle, strict_of}
+use Rattle.ciborium_ll.specs.Decoding.{view, IsSteady, ReadsPast, PullsTitle, spelling_of}
 use Rattle.ciborium_ll.proofs.CopyingTold.{consumes_told}
 use Rattle.ciborium_ll.proofs.DecodingLaws.{ReadsPast-none, passes_settled}
-use Rattle.cbor_skip.specs.Skipping.{ReadsWithin, strictness}
+use Rattle.cbor_skip.specs.Skipping.{ReadsWithin, allowed_by}
 use Rattle.cbor_skip.proofs.ItemSteps.{item_of}
 use Rattle.cbor_skip.proofs.StrictnessLaws.{strict_settled}
 use Rattle.uses.specs.declared.cose.Span.{Span}
@@ -26,10 +28,10 @@ use Rattle.uses.specs.Cose.{to_protected, to_unprotected, to_payload, to_signatu
 use Rattle.uses.specs.Cose.{TookString, TookPayload, TookMap, StopsAtPart, StopsSign1}
 
 module _ {R E : Type 0} (source : Ghosts R E) where
-  pub took_pull : (old new : Decoder R) (header : Header) → strict_of old ≡ true → old.waiting ≡ None
+  pub took_pull : (old new : Decoder R) (header : Header) → spelling_of old ≡ Shortest → old.waiting ≡ None
       → PullsTitle source old header new → Took source old (shortest_title header) new
-  took_pull old new header strict none pulled =
-      let same : pulled.title ≡ shortest_title header = (pulled.strict strict none).shortest in
+  took_pull old new header allowed none pulled =
+      let same : pulled.title ≡ shortest_title header = (pulled.strict allowed none).shortest in
       subst (λ (w : List ℕ). Took source old w new) same (record {
         consumed = pulled.bytes;
         offset = pulled.offset;
@@ -56,25 +58,25 @@ module _ {R E : Type 0} (source : Ghosts R E) where
   }
 
   -- The title of a map and then its items are a map.
-  pub took_map : (old titled new : Decoder R) (len : Option ℕ) (span : Span) → strict_of old ≡ true
+  pub took_map : (old titled new : Decoder R) (len : Option ℕ) (span : Span) → spelling_of old ≡ Shortest
       → old.waiting ≡ None → PullsTitle source old (h.Map len) titled → ReadsWithin source (h.Map len) (MAP_DEPTH - 1)
       titled new → span.start ≡ old.offset → span.end ≡ new.offset → TookMap source old span new
-  took_map old titled new len span strict none pulls within start end =
+  took_map old titled new len span allowed none pulls within start end =
       let header = h.Map len in
-      let title = took_pull old titled header strict none pulls in
+      let title = took_pull old titled header allowed none pulls in
       let rest = took_passed titled new within.rest within.passed
       (passes_settled source titled new within.rest within.passed pulls.none_waits) in
       let whole = took_then old titled new (shortest_title header) within.rest title rest in
-      let mode : strictness titled ≡ true =
-      strict_settled titled.waiting (strict_of titled) pulls.none_waits ∙ (pulls.mode ∙ strict) in
-      let completes = subst (λ (s : Bool). Completes s MAP_DEPTH header within.rest) mode within.completes in
-      let spelled = pulls.strict strict none in
-      let is_item = item_of true MAP_DEPTH pulls.title within.rest header pulls.is_title spelled completes in
+      let mode : allowed_by titled ≡ Shortest =
+      strict_settled titled.waiting (spelling_of titled) pulls.none_waits ∙ (pulls.mode ∙ allowed) in
+      let completes = subst (λ (s : Spelling). Completes s MAP_DEPTH header within.rest) mode within.completes in
+      let spelled = pulls.strict allowed none in
+      let is_item = item_of Shortest MAP_DEPTH pulls.title within.rest header pulls.is_title spelled completes in
       let same : pulls.title ≡ shortest_title header = spelled.shortest in
       record {
         bytes = shortest_title header ++ within.rest;
         is_map = record {
-          is_item = subst (λ (w : List ℕ). IsItem true MAP_DEPTH (w ++ within.rest)) same is_item;
+          is_item = subst (λ (w : List ℕ). IsItem Shortest MAP_DEPTH (w ++ within.rest)) same is_item;
           len = len;
           rest = within.rest;
           is = refl;
@@ -85,13 +87,14 @@ module _ {R E : Type 0} (source : Ghosts R E) where
       }
 
   -- The title of a byte string and then its body are a byte string.
-  pub took_string : (old titled new : Decoder R) (len : ℕ) (span : Span) → strict_of old ≡ true → old.waiting ≡ None
+  pub took_string : (old titled new : Decoder R) (len : ℕ) (span : Span) → spelling_of old ≡ Shortest
+      → old.waiting ≡ None
       → PullsTitle source old (h.Bytes (Some len)) titled → TookBody source len titled span new
       → TookString source old span new
-  took_string old titled new len span strict none pulls body =
+  took_string old titled new len span allowed none pulls body =
       let title : Took source old (shortest_title (h.Bytes (Some (length body.body)))) titled =
       subst (λ (n : ℕ). Took source old (shortest_title (h.Bytes (Some n))) titled) (sym body.all)
-      (took_pull old titled (h.Bytes (Some len)) strict none pulls) in
+      (took_pull old titled (h.Bytes (Some len)) allowed none pulls) in
       let whole = took_then old titled new (shortest_title (h.Bytes (Some (length body.body)))) body.body title
       body.took in
       record {
@@ -192,9 +195,9 @@ module _ {R E : Type 0} (source : Ghosts R E) where
 
     -- If the read stops at the part that is due, no COSE_Sign1 was read.
     pub stopped : (bytes before : List ℕ) (due : Due) (now ended : Decoder R) (error : CoseError E)
-        → view source first ≡ Some bytes → strict_of first ≡ true → ((d : Decoder R) → IsSteady source d)
+        → view source first ≡ Some bytes → spelling_of first ≡ Shortest → ((d : Decoder R) → IsSteady source d)
         → Came first before due now → StopsAtPart source (IsAllowed due) now error ended → StopsSign1 source bytes error
-    stopped bytes before due now ended error told strict steady came stops =
+    stopped bytes before due now ended error told allowed steady came stops =
         let left = consumes_told (view source first) (view source now) bytes before told came.took.consumed in
         record {
           before = before;
@@ -206,7 +209,7 @@ module _ {R E : Type 0} (source : Ghosts R E) where
           told = left.1;
           place = at_before before now came.took;
           none_waits = came.took.none_waits;
-          strict = came.took.mode ∙ strict;
+          strict = came.took.mode ∙ allowed;
           steady = steady now;
           ended = ended;
           stops = stops;

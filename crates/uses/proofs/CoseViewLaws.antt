@@ -1,9 +1,10 @@
 -- Laws of a signed message that is seen as a tree.
-use Rattle.std.proofs.Common.{◌≡◌, ℕ, suc, false, List, [], ◌∷◌, ◌++◌, Option, Some, None}
+use Rattle.std.proofs.Common.{◌≡◌, ℕ, suc, List, [], ◌∷◌, ◌++◌, Option, Some, None}
 use Rattle.std.proofs.Common.{refl, sym, ◌∙◌, ap, subst, arith, append-nil}
 use Rattle.ciborium_ll.specs.Types.Header.{Header}
 use Rattle.ciborium_ll.specs.Types.Header.TheVariants as h
 use Rattle.ciborium_ll.specs.Items.{IsItem}
+use Rattle.ciborium_ll_grammar.specs.declared.spelling.Spelling.TheVariants.{Any}
 use Rattle.ciborium_ll_grammar.proofs.ItemLaws.{one_item}
 use Rattle.ciborium_ll_grammar.proofs.TitleLaws.{one_title}
 use Rattle.cbor_view.specs.declared.item.Item.{Item}
@@ -31,10 +32,10 @@ pub one_four : (bytes a b c d a' b' c' d' : List ℕ) → IsFour bytes a b c d �
 one_four bytes a b c d a' b' c' d' f g =
     let opened = one_title f.title g.title (a ++ (b ++ (c ++ d))) (a' ++ (b' ++ (c' ++ d'))) (h.Array (Some 4))
     (h.Array (Some 4)) f.is_title g.is_title (sym f.whole ∙ g.whole) in
-    let first = one_item false false f.levels g.levels a a' (b ++ (c ++ d)) (b' ++ (c' ++ d')) f.is_first g.is_first
+    let first = one_item Any Any f.levels g.levels a a' (b ++ (c ++ d)) (b' ++ (c' ++ d')) f.is_first g.is_first
     opened.2 in
-    let second = one_item false false f.levels g.levels b b' (c ++ d) (c' ++ d') f.is_second g.is_second first.1 in
-    let third = one_item false false f.levels g.levels c c' d d' f.is_third g.is_third second.1 in
+    let second = one_item Any Any f.levels g.levels b b' (c ++ d) (c' ++ d') f.is_second g.is_second first.1 in
+    let third = one_item Any Any f.levels g.levels c c' d d' f.is_third g.is_third second.1 in
     (first.0, second.0, third.0, third.1)
 
 -- An array of another length is no array of four.
@@ -103,9 +104,9 @@ four_taken depth bytes old one two three last a b c d opens due first second thi
       whole = known.whole ∙ ap (λ (u : List ℕ). known.title ++ u) whole;
       levels = elements_depth old;
       is_first = first.is_item;
-      is_second = subst (λ (n : ℕ). IsItem false n (item_bytes b)) first.same_levels second.is_item;
-      is_third = subst (λ (n : ℕ). IsItem false n (item_bytes c)) same2 third.is_item;
-      is_fourth = subst (λ (n : ℕ). IsItem false n (item_bytes d)) same3 fourth.is_item;
+      is_second = subst (λ (n : ℕ). IsItem Any n (item_bytes b)) first.same_levels second.is_item;
+      is_third = subst (λ (n : ℕ). IsItem Any n (item_bytes c)) same2 third.is_item;
+      is_fourth = subst (λ (n : ℕ). IsItem Any n (item_bytes d)) same3 fourth.is_item;
     }
 
 -- ---- a tag
@@ -144,6 +145,6 @@ pub no_message : (bytes : List ℕ) → BeginsToDepth IsNoSign1 bytes → (messa
     → ⊥
 no_message bytes a found =
     let b = found.1 in
-    let one = one_item false false MESSAGE_DEPTH MESSAGE_DEPTH a.item b.item a.rest b.rest a.is_item b.is_item
+    let one = one_item Any Any MESSAGE_DEPTH MESSAGE_DEPTH a.item b.item a.rest b.rest a.is_item b.is_item
     (sym a.is ∙ b.is) in
     (subst (λ (u : List ℕ). IsNoSign1 u) one.0 a.has) _ _ _ _ b.has

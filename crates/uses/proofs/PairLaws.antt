@@ -1,6 +1,7 @@
 -- The read of the items of a map after its title, each by its own skip.
 use Rattle.std.proofs.Common.{◌≡◌, ℕ, suc, Bool, true, false, List, [], ◌∷◌, ◌++◌, length, Option, Some, None}
 use Rattle.std.proofs.Common.{Result, Ok, Err, refl, sym, ap, subst, ◌∙◌, inl, inr, ◌⊎◌, arith, append-nil}
+use Rattle.ciborium_ll_grammar.specs.declared.spelling.Spelling.{Spelling}
 use Rattle.ciborium_ll.specs.Types.Read.{Ghosts}
 use Rattle.ciborium_ll.specs.Types.Header.TheVariants as h
 use Rattle.ciborium_ll.specs.Types.Decoder.{Decoder}
@@ -15,27 +16,27 @@ use Rattle.cbor_skip.specs.declared.remaining.Remaining.{Remaining}
 use Rattle.cbor_skip.specs.declared.remaining.Remaining.TheVariants as r
 use Rattle.cbor_skip.specs.Due.{ItemDue, here, within}
 use Rattle.cbor_skip.specs.Remaining.{IsRemaining, closes, is_done}
-use Rattle.cbor_skip.specs.Skipping.{StopsDue, StopsItem, StopsWithin, SkipsWithin, ReadsWithin, strictness}
+use Rattle.cbor_skip.specs.Skipping.{StopsDue, StopsItem, StopsWithin, SkipsWithin, ReadsWithin, allowed_by}
 use Rattle.cbor_skip.proofs.ItemSteps.{SoFar, stops_within}
 use Rattle.uses.specs.Cose.{EndsPairs}
 
 -- If a break may stand after the items of a map, the items and the break complete the map.
-pairs_closed : (strict : Bool) (len : Option ℕ) (depth count : ℕ) (items : List ℕ) (remaining : Remaining)
-    → IsRemaining (h.Map len) count remaining → closes remaining ≡ true → AreItems strict depth count items
-    → Completes strict (suc depth) (h.Map len) (items ++ 0xff ∷ [])
-pairs_closed strict None depth count items r.OpenPairs is may i =
-    open_pairs is.0 (subst (λ (m : ℕ). AreItems strict depth m items) is.1 i)
-pairs_closed strict None depth count items r.OpenValue is may i = absurd cc
-pairs_closed strict (Some n) depth count items (r.Pairs m) is may i = absurd cc
-pairs_closed strict (Some n) depth count items (r.Value m) is may i = absurd cc
-pairs_closed strict len depth count items remaining is may i = absurd is
+pairs_closed : (allowed : Spelling) (len : Option ℕ) (depth count : ℕ) (items : List ℕ) (remaining : Remaining)
+    → IsRemaining (h.Map len) count remaining → closes remaining ≡ true → AreItems allowed depth count items
+    → Completes allowed (suc depth) (h.Map len) (items ++ 0xff ∷ [])
+pairs_closed allowed None depth count items r.OpenPairs is may i =
+    open_pairs is.0 (subst (λ (m : ℕ). AreItems allowed depth m items) is.1 i)
+pairs_closed allowed None depth count items r.OpenValue is may i = absurd cc
+pairs_closed allowed (Some n) depth count items (r.Pairs m) is may i = absurd cc
+pairs_closed allowed (Some n) depth count items (r.Value m) is may i = absurd cc
+pairs_closed allowed len depth count items remaining is may i = absurd is
 
 -- A beginning of an item is empty, or also a beginning if a break may stand in place of the whole item.
-due_open : (strict : Bool) (depth : ℕ) (bytes : List ℕ) (levels : ℕ) (closable : Bool)
-    → ItemDue strict false depth bytes levels closable
-    → ItemDue strict true depth bytes levels closable ⊎ ((bytes ≡ []) × (levels ≡ depth))
-due_open strict depth bytes levels closable here = inr (refl, refl)
-due_open strict depth bytes levels closable (within is_title taken more items due) =
+due_open : (allowed : Spelling) (depth : ℕ) (bytes : List ℕ) (levels : ℕ) (closable : Bool)
+    → ItemDue allowed false depth bytes levels closable
+    → ItemDue allowed true depth bytes levels closable ⊎ ((bytes ≡ []) × (levels ≡ depth))
+due_open allowed depth bytes levels closable here = inr (refl, refl)
+due_open allowed depth bytes levels closable (within is_title taken more items due) =
     inl (within is_title taken more items due)
 
 module _ {R E : Type 0} (source : Ghosts R E) where
@@ -60,7 +61,7 @@ module _ {R E : Type 0} (source : Ghosts R E) where
       → StopsItem source outer depth room old error new
   stops_outer false depth room old new error other stops = stops
   stops_outer true depth room old new error other stops =
-      elim (due_open (strictness old) depth stops.bytes stops.levels stops.closable stops.due) [
+      elim (due_open (allowed_by old) depth stops.bytes stops.levels stops.closable stops.due) [
         | inl due ↦ record {
           bytes = stops.bytes;
           levels = stops.levels;
@@ -98,7 +99,7 @@ module _ {R E : Type 0} (source : Ghosts R E) where
       let lone = alone_bytes met.pulled.title h.Break met.pulled.is_title refl in
       record {
         rest = so_far.items ++ 0xff ∷ [];
-        completes = pairs_closed (strictness old) len depth so_far.count so_far.items remaining so_far.is_remaining may
+        completes = pairs_closed (allowed_by old) len depth so_far.count so_far.items remaining so_far.is_remaining may
             so_far.are_items;
         passed = subst (λ (w : List ℕ). ReadsPast source old (so_far.items ++ w) new) lone passed;
       }

@@ -1,5 +1,6 @@
 -- Laws of settings that are read entry by entry.
-use Rattle.std.proofs.Common.{ℕ, suc, List, [], ◌++◌, false}
+use Rattle.std.proofs.Common.{ℕ, suc, List, [], ◌++◌}
+use Rattle.ciborium_ll_grammar.specs.declared.spelling.Spelling.TheVariants.{Any}
 use Rattle.ciborium_ll.specs.Types.Read.{Ghosts}
 use Rattle.ciborium_ll.specs.Types.Header.{Header}
 use Rattle.ciborium_ll.specs.Types.Decoder.{Decoder}
@@ -40,7 +41,7 @@ module _ {R E : Type 0} (source : Ghosts R E) where
   other_read key keeps item =
       entry_read key.pulled keeps item.passed
       (is_other key.pulled.is_title key.no_host key.no_port
-      (items_looser false _ (λ never. absurd cc) _ _ _ item.is_item))
+      (items_looser Any _ (λ never. absurd cc) _ _ _ item.is_item))
 
   -- Entries and then one more entry are entries.
   pub entries_more : {count : ℕ} {old now new : Decoder R} {before between after : Settings}

@@ -1,9 +1,10 @@
 -- Laws of an item in its shortest spelling, element by element.
 use Rattle.std.proofs.Common.{◌≡◌, ℕ, suc, ◌<◌, List, [], ◌++◌, length, take, drop, ◌-◌, refl, sym}
-use Rattle.std.proofs.Common.{Bool, true, false}
 use Rattle.std.proofs.Common.{ap, subst, ◌∙◌, arith, append_assoc, append-nil, length-drop}
 use Rattle.std.proofs.lemmas.List.{length-take, take-append-drop}
 use Rattle.std.proofs.Math.Seq.{take-append_seam, take-length}
+use Rattle.ciborium_ll_grammar.specs.declared.spelling.Spelling.{Spelling}
+use Rattle.ciborium_ll_grammar.specs.declared.spelling.Spelling.TheVariants.{Any, Shortest}
 use Rattle.ciborium_ll.specs.Elements.{Mark, done}
 use Rattle.ciborium_ll.specs.Elements.{IsStrictRun}
 use Rattle.ciborium_ll.specs.Faults.{BeginsWithElements}
@@ -52,17 +53,17 @@ taken bytes item behind len split counted =
     ∙ take-append_seam item behind
 
 -- An item at the start is also an item in any spelling.
-abbrev pub any_front : (strict : Bool) (depth : ℕ) (bytes : List ℕ) → BeginsWithItem strict depth bytes
-    → BeginsWithItem false depth bytes
-any_front strict depth bytes front = record {
+abbrev pub any_front : (allowed : Spelling) (depth : ℕ) (bytes : List ℕ) → BeginsWithItem allowed depth bytes
+    → BeginsWithItem Any depth bytes
+any_front allowed depth bytes front = record {
   item = front.item;
   rest = front.rest;
-  is_item = items_looser false strict (λ on. absurd cc) depth 1 front.item front.is_item;
+  is_item = items_looser Any allowed (λ on. absurd cc) depth 1 front.item front.is_item;
   is = front.is;
 }
 
 -- If all of the item was read, the bytes begin with an item in its shortest spelling.
-pub shortest_in_front : (depth : ℕ) (bytes rest : List ℕ) (len : ℕ) (front : BeginsWithItem false depth bytes) → len
+pub shortest_in_front : (depth : ℕ) (bytes rest : List ℕ) (len : ℕ) (front : BeginsWithItem Any depth bytes) → len
     ≡ length front.item
     → Spelled (take len bytes) rest → length rest ≡ 0 → ShortestInFront depth bytes len
 shortest_in_front depth bytes rest len front counted so_far none =
@@ -84,13 +85,13 @@ shortest_in_front depth bytes rest len front counted so_far none =
     }
 
 -- If no element in its shortest spelling is next, the bytes begin with no item in its shortest spelling.
-pub no_shortest : (depth : ℕ) (bytes rest : List ℕ) (len : ℕ) (front : BeginsWithItem false depth bytes) → len
+pub no_shortest : (depth : ℕ) (bytes rest : List ℕ) (len : ℕ) (front : BeginsWithItem Any depth bytes) → len
     ≡ length front.item
-    → Spelled (take len bytes) rest → 0 < length rest → (BeginsWithElements true 1 rest → ⊥) → (other : ℕ)
+    → Spelled (take len bytes) rest → 0 < length rest → (BeginsWithElements Shortest 1 rest → ⊥) → (other : ℕ)
     → ShortestInFront depth bytes other → ⊥
 no_shortest depth bytes rest len front counted so_far some none other shortest =
     let item = shortest.is_shortest in
-    let same = one_item false false depth depth shortest.item front.item shortest.rest front.rest item.is_item
+    let same = one_item Any Any depth depth shortest.item front.item shortest.rest front.rest item.is_item
     front.is_item
     (sym shortest.is ∙ front.is) in
     let whole = same.0 ∙ sym (taken bytes front.item front.rest len front.is counted) ∙ so_far.whole in

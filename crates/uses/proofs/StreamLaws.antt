@@ -1,6 +1,7 @@
 -- Laws of a copy of a stream, and of the flush after the copy.
-use Rattle.std.proofs.Common.{◌≡◌, ℕ, zero, suc, false, ◌+◌, IsTrue, IsSome, Option, List, [], ◌++◌, length, drop}
+use Rattle.std.proofs.Common.{◌≡◌, ℕ, zero, suc, ◌+◌, IsTrue, IsSome, Option, List, [], ◌++◌, length, drop}
 use Rattle.std.proofs.Common.{None, Some, Result, Ok, Err, refl, sym, ap, subst, ◌∙◌, inl, inr, arith}
+use Rattle.ciborium_ll_grammar.specs.declared.spelling.Spelling.TheVariants.{Any}
 use Rattle.ciborium_ll.specs.Types.Read.{Ghosts as Reader}
 use Rattle.ciborium_ll.specs.Types.Write.{Ghosts as Writer}
 use Rattle.ciborium_ll.specs.Types.Decoder.{Decoder}
@@ -35,7 +36,7 @@ module _ {R E W F : Type 0} (source : Reader R E) (sink : Writer W F) where
   -- If the reader and the writer tell their bytes, the fresh decoder and the encoder's writer tell them.
   pub told : (reader : R) (writer writer' : W) (decoder : Decoder R) (due written : List ℕ) → IsFresh reader 0 decoder
       → writer' ≡ writer → TellBytes source sink reader writer due written
-      → IsTold source sink false (sides decoder writer') due written
+      → IsTold source sink Any (sides decoder writer') due written
   told reader writer writer' decoder due written fresh same tell = record {
     mode = fresh.mode;
     due-told = ap (λ w. behind_waiting w (source.ahead decoder.reader)) fresh.none_waits
@@ -47,7 +48,7 @@ module _ {R E W F : Type 0} (source : Reader R E) (sink : Writer W F) where
   -- If the reader and the writer are ready, the fresh decoder and the encoder's writer are ready for a copy.
   pub ready : (count : ℕ) (reader : R) (writer writer' : W) (decoder : Decoder R) (due written : List ℕ)
       → IsFresh reader 0 decoder → writer' ≡ writer → AreReady source sink count reader writer due written
-      → IsReady source sink false count 64 (sides decoder writer') due written
+      → IsReady source sink Any count 64 (sides decoder writer') due written
   ready count reader writer writer' decoder due written fresh same are = record {
     steady = subst (λ (r : R). IsTrue (source.steady r)) (sym fresh.reader) are.steady;
     told = told reader writer writer' decoder due written fresh same are.tell;
@@ -61,7 +62,7 @@ module _ {R E W F : Type 0} (source : Reader R E) (sink : Writer W F) where
   -- ---- no header waits after a copy from a fresh decoder
 
   copied_settled : (count : ℕ) (due written : List ℕ) (old new : Decoder R) (writer' : W) → old.waiting ≡ None
-      → CopiesFront source sink false count due written old (sides new writer') → new.waiting ≡ None
+      → CopiesFront source sink Any count due written old (sides new writer') → new.waiting ≡ None
   copied_settled zero due written old new writer' none copied = copied.still refl ∙ none
   copied_settled (suc count) due written old new writer' none copied = copied.settled (omega arith)
 
@@ -119,7 +120,7 @@ module _ {R E W F : Type 0} (source : Reader R E) (sink : Writer W F) where
 
   module _ (count : ℕ) (due written : List ℕ) (reader reader' : R) (writer : W) (old new : Decoder R) (writer' : W)
       (fresh : IsFresh reader 0 old) (same : reader' ≡ new.reader) where
-    pub copies_so : CopiesFront source sink false count due written old (sides new writer')
+    pub copies_so : CopiesFront source sink Any count due written old (sides new writer')
         → CopiesSo source sink count due written reader' writer'
     copies_so copied = record {
       front = copied.front;
@@ -136,27 +137,27 @@ module _ {R E W F : Type 0} (source : Reader R E) (sink : Writer W F) where
         all.elements.copied.written.room
 
     at_fault : (answer : Answer) → new.waiting ≡ None
-        → MeetsFault source sink false count due written answer old (sides new writer')
+        → MeetsFault source sink Any count due written answer old (sides new writer')
         → StopsAtFault source sink count due written answer reader' writer'
     at_fault answer none meets = record {
       fault = meets.fault;
       answered = meets.answered;
-      fewer = λ front. no_fault false count due front meets.fault;
+      fewer = λ front. no_fault Any count due front meets.fault;
       output = meets.output;
       left = due_ahead new reader' (drop meets.fault.consumed meets.fault.ahead) none same meets.left;
     }
 
     at_syntax : (place start : ℕ) → place ≡ old.offset + start → new.waiting ≡ None
-        → MeetsFault source sink false count due written (Syntax start) old (sides new writer')
+        → MeetsFault source sink Any count due written (Syntax start) old (sides new writer')
         → StopsAtFault source sink count due written (Syntax place) reader' writer'
     at_syntax place start at none meets =
         let from_start : start ≡ place = omega (arith, at, fresh.offset) in
-        at_fault (Syntax place) none (subst (λ (n : ℕ). MeetsFault source sink false count due written (Syntax n) old
+        at_fault (Syntax place) none (subst (λ (n : ℕ). MeetsFault source sink Any count due written (Syntax n) old
         (sides new writer')) from_start meets)
 
     pub error_told : (error : RecodeError E F)
         → StopsCopy source sink count 64 (sides old writer) error (sides new writer')
-        → RecodesTold source sink false count due written old (Err error) (sides new writer')
+        → RecodesTold source sink Any count due written old (Err error) (sides new writer')
         → IsNormalised source sink count due written (Err error) reader' writer'
     error_told (r.Read (e.Io fault)) stops told =
         at_fault Short (stop_settled count 64 _ _ (r.Read (e.Io fault)) fresh.none_waits stops) told
@@ -173,7 +174,7 @@ module _ {R E W F : Type 0} (source : Reader R E) (sink : Writer W F) where
 
     pub error_anyhow : (error : RecodeError E F)
         → StopsCopy source sink count 64 (sides old writer) error (sides new writer')
-        → RecodesAnyhow source sink false count 64 due written old (Err error) (sides new writer')
+        → RecodesAnyhow source sink Any count 64 due written old (Err error) (sides new writer')
         → NormalisesAnyhow source sink count due written (Err error) reader' writer'
     error_anyhow (r.Read (e.Io fault)) stops anyhow = short anyhow
     error_anyhow (r.Read (e.Syntax place)) stops anyhow =

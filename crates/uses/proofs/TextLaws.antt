@@ -1,8 +1,9 @@
 -- Laws of bodies that are read into a text.
-use Rattle.std.proofs.Common.{◌≡◌, Bool, ℕ, ◌+◌, ◌<◌, ◌≤◌, List, [], ◌∷◌, ◌++◌, length, Option, Some, IsTrue, Result}
+use Rattle.std.proofs.Common.{◌≡◌, ℕ, ◌+◌, ◌<◌, ◌≤◌, List, [], ◌∷◌, ◌++◌, length, Option, Some, IsTrue, Result}
 use Rattle.std.proofs.Common.{Ok}
 use Rattle.std.proofs.Common.{Err, refl, sym, ap, subst, ◌∙◌, inr, arith, append_assoc, append-nil, length-append}
 use Rattle.std.specs.Str.{IsUtf8}
+use Rattle.ciborium_ll_grammar.specs.declared.spelling.Spelling.{Spelling}
 use Rattle.ciborium_ll.specs.Types.Read.{Ghosts as Reader}
 use Rattle.ciborium_ll.specs.Types.Write.{Ghosts as Writer}
 use Rattle.ciborium_ll.specs.Types.Body.{Body}
@@ -15,7 +16,7 @@ use Rattle.ciborium_ll.specs.Text.{IsCharacters, joined}
 use Rattle.ciborium_ll.specs.Strings.{Text}
 use Rattle.ciborium_ll.specs.Elements.{AreWritable}
 use Rattle.ciborium_ll.specs.Chunks.{GoesOnTo}
-use Rattle.ciborium_ll.specs.Decoding.{IsSteady, MovesOn, offset_of, refusals_of, PullsTitle, TakesBack, strict_of}
+use Rattle.ciborium_ll.specs.Decoding.{IsSteady, MovesOn, offset_of, refusals_of, PullsTitle, TakesBack, spelling_of}
 use Rattle.ciborium_ll.specs.Finishing.{EndsBody, ReadsRest}
 use Rattle.ciborium_ll.specs.Recoding.{BodyUnwritten}
 use Rattle.ciborium_ll.specs.Progress.{opens_of}
@@ -61,14 +62,14 @@ module _ {R E : Type 0} (source : Reader R E) where
   gathered_none progress old text empty = record { bodies = []; counted = refl; whole = empty; gathers = none }
 
   -- The promises of `advance` about a string that is as strict as its decoder was.
-  abbrev pub as_strict : (strict mode : Bool) (last after : Progress) (now new : Decoder R)
-      (answer : Result (Option Body) (Error E)) → strict ≡ mode → AdvancesTo source Text strict last now answer after
+  abbrev pub as_strict : (allowed mode : Spelling) (last after : Progress) (now new : Decoder R)
+      (answer : Result (Option Body) (Error E)) → allowed ≡ mode → AdvancesTo source Text allowed last now answer after
       new
       → opens_of after + offset_of now ≤ opens_of last + offset_of new → MovesOn source now new
       → GoesOnTo source Text mode last now answer new
-  as_strict strict mode last after now new answer same advances opens moves_on = record {
+  as_strict allowed mode last after now new answer same advances opens moves_on = record {
     after = after;
-    advanced = subst (λ (s : Bool). AdvancesTo source Text s last now answer after new) same advances;
+    advanced = subst (λ (s : Spelling). AdvancesTo source Text s last now answer after new) same advances;
     opens = opens;
     moves_on = moves_on;
   }
@@ -76,7 +77,7 @@ module _ {R E : Type 0} (source : Reader R E) where
   -- After the read of one more body, the text has this body at its end.
   pub gathered_more : (progress : Progress) (old : Decoder R) (count : ℕ) (text text' : List ℕ) (last : Progress)
       (now titled new : Decoder R) (body : Body) → GatheredSoFar progress old count text last now
-      → (announced : GoesOnTo source Text (strict_of old) last now (Ok (Some body)) titled)
+      → (announced : GoesOnTo source Text (spelling_of old) last now (Ok (Some body)) titled)
       → (reads : ReadsRest source Text [] body.length titled new) → text' ≡ text ++ reads.read
       → GatheredSoFar progress old (count + 1) text' announced.after new
   gathered_more progress old count text text' last now titled new body so_far announced reads appended = record {
@@ -87,17 +88,18 @@ module _ {R E : Type 0} (source : Reader R E) where
   }
 
   -- `advance` answered after the bodies read so far.
-  pub goes_on : (strict : Bool) (progress : Progress) (old : Decoder R) (count : ℕ) (text : List ℕ)
-      (last after : Progress) (now new : Decoder R) (answer : Result (Option Body) (Error E)) → strict ≡ strict_of old
+  pub goes_on : (allowed : Spelling) (progress : Progress) (old : Decoder R) (count : ℕ) (text : List ℕ)
+      (last after : Progress) (now new : Decoder R) (answer : Result (Option Body) (Error E))
+      → allowed ≡ spelling_of old
       → (so_far : GatheredSoFar progress old count text last now)
-      → AdvancesTo source Text strict last now answer after new
+      → AdvancesTo source Text allowed last now answer after new
       → opens_of after + offset_of now ≤ opens_of last + offset_of new → MovesOn source now new
       → AdvancesBehind source progress old so_far.bodies answer new
-  goes_on strict progress old count text last after now new answer same so_far advances opens moves_on = record {
+  goes_on allowed progress old count text last after now new answer same so_far advances opens moves_on = record {
     last = last;
     now = now;
     gathers = so_far.gathers;
-    advances = as_strict strict (strict_of old) last after now new answer same advances opens moves_on;
+    advances = as_strict allowed (spelling_of old) last after now new answer same advances opens moves_on;
   }
 
   -- If the writer did not take a chunk, there was no memory for the chunk.
@@ -160,7 +162,7 @@ module _ {R E : Type 0} (source : Reader R E) where
         read_start source Text len pulled.title titled pushed pulled.is_title pulled.none_waits back
     gathers_read bodies last now (more {bodies = others} {last = before} {now = from} {titled = at} body so_far
         announced reads) =
-        read_more source Text (strict_of pushed) pulled.title titled from at others before announced.after
+        read_more source Text (spelling_of pushed) pulled.title titled from at others before announced.after
         announced.moves_on.steady len
         body now (gathers_read others before from so_far) announced.advanced reads
 
@@ -169,7 +171,7 @@ module _ {R E : Type 0} (source : Reader R E) where
         → GathersAll source limit (p.Open 0) pushed text new → ReadsText source limit old text new
     reads_text limit text new steady all =
         let ends = all.ends in
-        let read = read_whole source Text (strict_of pushed) pulled.title titled ends.now new all.bodies ends.last
+        let read = read_whole source Text (spelling_of pushed) pulled.title titled ends.now new all.bodies ends.last
         ends.advances.after
         ends.advances.moves_on.steady len (gathers_read all.bodies ends.last ends.now ends.gathers)
         ends.advances.advanced in

@@ -1,7 +1,8 @@
 -- Laws of the value of a text key in a map, and of its offset.
-use Rattle.std.proofs.Common.{◌≡◌, ℕ, ◌+◌, ◌-◌, ◌≤◌, false, List, [], ◌++◌, length, Option, Err}
+use Rattle.std.proofs.Common.{◌≡◌, ℕ, ◌+◌, ◌-◌, ◌≤◌, List, [], ◌++◌, length, Option, Err}
 use Rattle.std.proofs.Common.{IsOk, sym, ◌∙◌, ap, subst, arith, length-append}
 use Rattle.std.specs.Prelude.{◌↔◌}
+use Rattle.ciborium_ll_grammar.specs.declared.spelling.Spelling.TheVariants.{Any}
 use Rattle.ciborium_ll.specs.Types.Header.{Header}
 use Rattle.ciborium_ll.specs.Types.Header.TheVariants as h
 use Rattle.ciborium_ll.specs.Items.{IsItem}
@@ -21,8 +22,8 @@ use Rattle.uses.specs.Webauthn.{later}
 
 module _ (e : ℕ) (key : List ℕ) where
   -- If the first key is another, the value is that of a later key.
-  value_back : (w other value last : List ℕ) (place : ℕ) (found : List ℕ) → IsItem false e other
-      → IsItem false e value → w ≡ other ++ (value ++ last) → (IsTextOf other key → ⊥)
+  value_back : (w other value last : List ℕ) (place : ℕ) (found : List ℕ) → IsItem Any e other
+      → IsItem Any e value → w ≡ other ++ (value ++ last) → (IsTextOf other key → ⊥)
       → IsFirstAt e key w place found → (at : ℕ) × IsFirstAt e key last at found
   value_back w other value last place found i j z n (here others p q m) =
       absurd (n (rw (two_items _ _ _ _ _ _ _ _ _ _ p q i j z).0 at m))
@@ -103,8 +104,8 @@ module _ (d : ℕ) (key bytes : List ℕ) where
             (has.at, rw (← one.2) (rw (← less) has.first));
       }
 
-  module _ (place e : ℕ) (w other value last : List ℕ) (left : LeftAt place e w) (i : IsItem false e other)
-      (j : IsItem false e value) (z : w ≡ other ++ (value ++ last)) where
+  module _ (place e : ℕ) (w other value last : List ℕ) (left : LeftAt place e w) (i : IsItem Any e other)
+      (j : IsItem Any e value) (z : w ≡ other ++ (value ++ last)) where
     -- If the next key is the text, its value is the value of the key.
     pub left_here : IsTextOf other key → HasValueAt d key bytes (place + length other) value
     left_here m = left.there (length other) value (rw z (here last i j m))
@@ -140,7 +141,7 @@ module _ (d : ℕ) (key bytes : List ℕ) where
 
 -- The item that begins the bytes has a property.
 pub begun : {Has : List ℕ → Type 0} {bytes item : List ℕ} → (rest : List ℕ) × (bytes ≡ item ++ rest)
-    → IsItem false ATTESTATION_DEPTH item → Has item → BeginsWith Has bytes
+    → IsItem Any ATTESTATION_DEPTH item → Has item → BeginsWith Has bytes
 begun whole is_item has = record { item = _; rest = whole.0; is = whole.1; is_item = is_item; has = has }
 
 -- If the item that begins the bytes is no attestation object, the bytes begin with none.

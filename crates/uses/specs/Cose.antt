@@ -2,6 +2,7 @@
 use Rattle.std.specs.Prelude.{◌≡◌, ℕ, ◌+◌, ◌-◌, ◌<◌, ◌≤◌, ◌⊎◌, List, [], ◌∷◌, ◌++◌, length, Option, Some, None}
 use Rattle.std.specs.Prelude.{Bool, true, Result, Ok, Err}
 use Rattle.std.specs.Io.KnownBytes.{Consumes}
+use Rattle.ciborium_ll_grammar.specs.declared.spelling.Spelling.TheVariants.{Shortest}
 use Rattle.ciborium_ll.specs.Types.Read.{Ghosts}
 use Rattle.ciborium_ll.specs.Types.Header.{Header}
 use Rattle.ciborium_ll.specs.Types.Header.TheVariants as h
@@ -9,7 +10,8 @@ use Rattle.ciborium_ll.specs.Types.Decoder.{Decoder}
 use Rattle.ciborium_ll.specs.Types.Error.{Error}
 use Rattle.ciborium_ll.specs.Title.{shortest_title}
 use Rattle.ciborium_ll.specs.Items.{IsItem}
-use Rattle.ciborium_ll.specs.Decoding.{view, IsSteady, ReadsPast, DecoderPullAnswer, PullsTitle, ReadsBytes, strict_of}
+use Rattle.ciborium_ll.specs.Decoding.{view, IsSteady, ReadsPast, DecoderPullAnswer, PullsTitle, ReadsBytes}
+use Rattle.ciborium_ll.specs.Decoding.{spelling_of}
 use Rattle.ciborium_ll.specs.Segments.{PullsOther}
 use Rattle.cbor_skip.specs.declared.SkipError.{SkipError}
 use Rattle.cbor_skip.specs.declared.SkipError.TheVariants as s
@@ -33,7 +35,7 @@ pub record IsByteString (bytes : List ℕ) (at : ℕ) (span : Span) : Type 0 whe
 -- The bytes are a map in its shortest spelling (RFC 7049, 3.9), nested at most `MAP_DEPTH` deep, which begins at this
 -- offset. The span is the span of the whole map. At offset 3, `a0` has the span from 3 up to 4.
 pub record IsMap (bytes : List ℕ) (at : ℕ) (span : Span) : Type 0 where
-  pub is_item : IsItem true MAP_DEPTH bytes
+  pub is_item : IsItem Shortest MAP_DEPTH bytes
   pub len : Option ℕ
   pub rest : List ℕ
   pub is : bytes ≡ shortest_title (h.Map len) ++ rest
@@ -119,7 +121,7 @@ module _ {R E : Type 0} (source : Ghosts R E) where
     pub consumed : Consumes (view source old) (view source new) bytes
     pub offset : new.offset ≡ old.offset + length bytes
     pub none_waits : new.waiting ≡ None
-    pub mode : strict_of new ≡ strict_of old
+    pub mode : spelling_of new ≡ spelling_of old
 
   -- A body of this length was taken. At the offset 3, `01 02` has the span from 3 up to 5.
   pub record TookBody (len : ℕ) (old : Decoder R) (span : Span) (new : Decoder R) : Type 0 where
@@ -206,7 +208,7 @@ module _ {R E : Type 0} (source : Ghosts R E) where
     pub told : view source decoder ≡ Some rest
     pub place : decoder.offset ≡ length before
     pub none_waits : decoder.waiting ≡ None
-    pub strict : strict_of decoder ≡ true
+    pub strict : spelling_of decoder ≡ Shortest
     pub steady : IsSteady source decoder
     pub ended : Decoder R
     pub stops : StopsAtPart (IsAllowed due) decoder error ended

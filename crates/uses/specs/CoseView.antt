@@ -1,10 +1,11 @@
 -- A signed message, COSE_Sign1 (RFC 9052, 4.2), in any spelling, and its parts.
-use Rattle.std.specs.Prelude.{◌≡◌, ℕ, false, List, ◌++◌, Option, Some, None}
+use Rattle.std.specs.Prelude.{◌≡◌, ℕ, List, ◌++◌, Option, Some, None}
 use Rattle.std.specs.Borrow.{Bor}
 use Rattle.ciborium_ll.specs.Types.Header.TheVariants as h
 use Rattle.ciborium_ll.specs.Title.{IsTitle}
 use Rattle.ciborium_ll.specs.Items.{IsItem}
 use Rattle.cbor_view.specs.Held.{item_bytes}
+use Rattle.ciborium_ll_grammar.specs.declared.spelling.Spelling.TheVariants.{Any}
 use Rattle.ciborium_ll_grammar.specs.Title.{HasFirstTitle}
 use Rattle.cbor_view.specs.Views.{IsBytesOf, IsOpenedBy}
 use Rattle.cbor_view.specs.Faults.{HasFault}
@@ -23,10 +24,10 @@ pub record IsFour (bytes first second third fourth : List ℕ) : Type 0 where
   pub is_title : IsTitle title (h.Array (Some 4))
   pub whole : bytes ≡ title ++ (first ++ (second ++ (third ++ fourth)))
   pub levels : ℕ
-  pub is_first : IsItem false levels first
-  pub is_second : IsItem false levels second
-  pub is_third : IsItem false levels third
-  pub is_fourth : IsItem false levels fourth
+  pub is_first : IsItem Any levels first
+  pub is_second : IsItem Any levels second
+  pub is_third : IsItem Any levels third
+  pub is_fourth : IsItem Any levels fourth
 
 -- The bytes are a payload: null if it is detached, or a byte string of definite length with this body (RFC 9052, 4.2).
 -- The bytes `f6` are a detached payload, and `41 01` has the body `01`.
@@ -67,7 +68,7 @@ pub record BeginsToDepth (Has : List ℕ → Type 0) (bytes : List ℕ) : Type 0
   pub item : List ℕ
   pub rest : List ℕ
   pub is : bytes ≡ item ++ rest
-  pub is_item : IsItem false MESSAGE_DEPTH item
+  pub is_item : IsItem Any MESSAGE_DEPTH item
   pub has : Has item
 
 -- The bytes begin with a COSE_Sign1, and the message has its parts (RFC 9052, 4.2). In `d2 84 40 a0 f6 40 05` the byte

@@ -1,5 +1,6 @@
 -- Settings: a map whose keys are numbers (RFC 7049, 2.1).
 use Rattle.std.specs.Prelude.{◌≡◌, ℕ, zero, suc, List, [], ◌++◌, Bool, true, false, Some, None, MatchOption, string_bytes}
+use Rattle.ciborium_ll_grammar.specs.declared.spelling.Spelling.TheVariants.{Any}
 use Rattle.ciborium_ll.specs.Types.Read.{Ghosts}
 use Rattle.ciborium_ll.specs.Types.Header.TheVariants as h
 use Rattle.ciborium_ll.specs.Types.Decoder.{Decoder}
@@ -30,7 +31,7 @@ pub data IsEntry : List ℕ → Settings → Settings → Type 0 where
       → IsTitle value (h.Positive number) → new.port ≡ Some number → new.host ≡ old.host
       → IsEntry (key ++ value) old new
   is_other : {key value : List ℕ} {number : ℕ} {settings : Settings} → IsTitle key (h.Positive number)
-      → (number ≡ 1 → ⊥) → (number ≡ 2 → ⊥) → IsItem false SETTINGS_DEPTH value
+      → (number ≡ 1 → ⊥) → (number ≡ 2 → ⊥) → IsItem Any SETTINGS_DEPTH value
       → IsEntry (key ++ value) settings settings
 
 -- `AreEntries count bytes old new`: the bytes are `count` entries, joined, and they turn the settings `old` into `new`

@@ -1,5 +1,6 @@
 -- Items in their shortest spelling.
-use Rattle.std.specs.Prelude.{◌≡◌, ℕ, List, ◌++◌, length, false}
+use Rattle.std.specs.Prelude.{◌≡◌, ℕ, List, ◌++◌, length}
+use Rattle.ciborium_ll_grammar.specs.declared.spelling.Spelling.TheVariants.{Any}
 use Rattle.ciborium_ll.specs.Elements.{IsStrictRun, Mark}
 use Rattle.ciborium_ll.specs.Items.{IsItem}
 
@@ -7,7 +8,7 @@ use Rattle.ciborium_ll.specs.Items.{IsItem}
 -- spelling (3.9). It has no simple value from 24 to 31 (2.3), and no string of indefinite length inside another
 -- (2.2.2). With depth 1, `81 17` is such an item, and `81 18 17` is not.
 pub record IsShortestItem (depth : ℕ) (bytes : List ℕ) : Type 0 where
-  pub is_item : IsItem false depth bytes
+  pub is_item : IsItem Any depth bytes
   pub count : ℕ
   pub marks : List Mark
   pub strict : IsStrictRun count bytes marks

@@ -1,6 +1,7 @@
 -- The effect of a copy of a stream to its shortest spelling.
-use Rattle.std.specs.Prelude.{◌≡◌, ℕ, ◌+◌, ◌<◌, ◌≤◌, ◌^◌, ◌⊎◌, false, List, ◌++◌, length, drop, IsTrue, IsSome, Some}
+use Rattle.std.specs.Prelude.{◌≡◌, ℕ, ◌+◌, ◌<◌, ◌≤◌, ◌^◌, ◌⊎◌, List, ◌++◌, length, drop, IsTrue, IsSome, Some}
 use Rattle.std.specs.Prelude.{Result, Ok, Err, OnOk, OnErr}
+use Rattle.ciborium_ll_grammar.specs.declared.spelling.Spelling.TheVariants.{Any}
 use Rattle.ciborium_ll.specs.Types.Read.{Ghosts as Reader}
 use Rattle.ciborium_ll.specs.Types.Write.{Ghosts as Writer}
 use Rattle.ciborium_ll.specs.Types.Decoder.{Decoder}
@@ -79,7 +80,8 @@ module _ {R E W F : Type 0} (source : Reader R E) (sink : Writer W F) where
     pub steady : IsTrue (source.steady reader)
     pub room : ℕ
     pub room-told : sink.room writer ≡ Some room
-    pub enough : ((front : BeginsWithElements false count due) × (length (spelling front.marks) ≤ room)) ⊎ (length due ≤ room)
+    pub enough : ((front : BeginsWithElements Any count due) × (length (spelling front.marks) ≤ room))
+        ⊎ (length due ≤ room)
     pub fits : length due + 64 < 2 ^ 64
 
   -- ---- the copy
@@ -87,7 +89,7 @@ module _ {R E W F : Type 0} (source : Reader R E) (sink : Writer W F) where
   -- The bytes began with `count` elements. Their shortest spelling was appended, and exactly the bytes after them are
   -- left. Over `18 17 05` with a count of 1, `17` is appended and `05` is left.
   pub record CopiesSo (count : ℕ) (due written : List ℕ) (reader : R) (writer : W) : Type 0 where
-    pub front : BeginsWithElements false count due
+    pub front : BeginsWithElements Any count due
     pub output : sink.written writer ≡ Some (written ++ spelling front.marks)
     pub left : source.ahead reader ≡ Some front.rest
 
@@ -95,9 +97,9 @@ module _ {R E W F : Type 0} (source : Reader R E) (sink : Writer W F) where
   -- the fault, and the reader the bytes after those that the fault consumes. Over `01 1c 05` with a count of 2, `01` is
   -- appended and `05` is left.
   pub record StopsAtFault (count : ℕ) (due written : List ℕ) (answer : Answer) (reader : R) (writer : W) : Type 0 where
-    pub fault : HasFault false count due
+    pub fault : HasFault Any count due
     pub answered : fault.answer ≡ answer
-    pub fewer : BeginsWithElements false count due → ⊥
+    pub fewer : BeginsWithElements Any count due → ⊥
     pub output : sink.written writer ≡ Some (written ++ fault.written)
     pub left : source.ahead reader ≡ Some (drop fault.consumed fault.ahead)
 

@@ -14,7 +14,7 @@ use Rattle.ciborium_ll.specs.Text.{joined}
 use Rattle.ciborium_ll.specs.Strings.{IsString, Text}
 use Rattle.ciborium_ll.specs.Elements.{AreWritable}
 use Rattle.ciborium_ll.specs.Chunks.{GoesOnTo}
-use Rattle.ciborium_ll.specs.Decoding.{ReadsPast, DecoderPullAnswer, PullsTitle, TakesBack, strict_of}
+use Rattle.ciborium_ll.specs.Decoding.{ReadsPast, DecoderPullAnswer, PullsTitle, TakesBack, spelling_of}
 use Rattle.ciborium_ll.specs.Finishing.{BeginsRest, EndsBody, ReadsRest}
 use Rattle.ciborium_ll.specs.Segments.{PullsOther}
 use Rattle.uses.specs.declared.texts.TextError.{TextError}
@@ -52,7 +52,7 @@ module _ {R E : Type 0} (source : Ghosts R E) where
     none : Gathers progress old [] progress old
     more : {bodies : List (List ℕ)} {last : Progress} {now titled new : Decoder R} (body : Body)
         → Gathers progress old bodies last now
-        → (announced : GoesOnTo source Text (strict_of old) last now (Ok (Some body)) titled)
+        → (announced : GoesOnTo source Text (spelling_of old) last now (Ok (Some body)) titled)
         → (reads : ReadsRest source Text [] body.length titled new)
         → Gathers progress old (bodies ++ reads.read ∷ []) announced.after new
 
@@ -63,7 +63,7 @@ module _ {R E : Type 0} (source : Ghosts R E) where
     pub last : Progress
     pub now : Decoder R
     pub gathers : Gathers progress old bodies last now
-    pub advances : GoesOnTo source Text (strict_of old) last now answer new
+    pub advances : GoesOnTo source Text (spelling_of old) last now answer new
 
   -- The bodies up to the end of the string were read. Joined, they are the text, and there are no more than the limit
   -- allows. In `7f 61 61 61 62 ff` there are two.

@@ -1,6 +1,7 @@
 -- An attestation object of Web Authentication (W3C, 6.5.4): a map with the text keys `fmt`, `attStmt` and `authData`,
 -- and the places of their values.
-use Rattle.std.specs.Prelude.{◌≡◌, ℕ, ◌+◌, ◌-◌, false, List, ◌++◌, length, codes, Option}
+use Rattle.std.specs.Prelude.{◌≡◌, ℕ, ◌+◌, ◌-◌, List, ◌++◌, length, codes, Option}
+use Rattle.ciborium_ll_grammar.specs.declared.spelling.Spelling.TheVariants.{Any}
 use Rattle.ciborium_ll.specs.Types.Header.TheVariants as h
 use Rattle.ciborium_ll.specs.Title.{IsTitle}
 use Rattle.ciborium_ll.specs.Items.{IsItem}
@@ -18,9 +19,9 @@ use Rattle.uses.specs.declared.webauthn.TheConstants.{ATTESTATION_DEPTH}
 -- which begins at this offset in the pairs (RFC 7049, 2.1). In `01 02 61 61 05 61 61 06` the first pair with the key
 -- `a` has the value `05`, at offset 4.
 pub data IsFirstAt (depth : ℕ) (key : List ℕ) : List ℕ → ℕ → List ℕ → Type 0 where
-  here : {other value : List ℕ} (others : List ℕ) → IsItem false depth other → IsItem false depth value
+  here : {other value : List ℕ} (others : List ℕ) → IsItem Any depth other → IsItem Any depth value
       → IsTextOf other key → IsFirstAt depth key (other ++ (value ++ others)) (length other) value
-  later : {other another others value : List ℕ} {place : ℕ} → IsItem false depth other → IsItem false depth another
+  later : {other another others value : List ℕ} {place : ℕ} → IsItem Any depth other → IsItem Any depth another
       → (IsTextOf other key → ⊥) → IsFirstAt depth key others place value
       → IsFirstAt depth key (other ++ (another ++ others)) (length other + length another + place) value
 
@@ -85,7 +86,7 @@ pub record BeginsWith (Has : List ℕ → Type 0) (bytes : List ℕ) : Type 0 wh
   pub item : List ℕ
   pub rest : List ℕ
   pub is : bytes ≡ item ++ rest
-  pub is_item : IsItem false ATTESTATION_DEPTH item
+  pub is_item : IsItem Any ATTESTATION_DEPTH item
   pub has : Has item
 
 -- The item is a map with the three parts, in these spans (W3C Web Authentication, 6.5.4). Its title may be `a3` or

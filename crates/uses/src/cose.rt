@@ -1,7 +1,8 @@
 //! A signed message, COSE_Sign1 (RFC 9052, 4.2), as the places of its parts.
 
 ghost use Rattle.std.specs.Prelude.{◌≡◌, IfErr, IfOk, OnOk, None, true};
-ghost use Rattle.ciborium_ll.specs.Decoding.{strict_of, waiting_of};
+ghost use Rattle.ciborium_ll_grammar.specs.declared.spelling.Spelling.TheVariants.{Shortest};
+ghost use Rattle.ciborium_ll.specs.Decoding.{spelling_of, waiting_of};
 ghost use Rattle.ciborium_ll.specs.Title.{shortest_title};
 ghost use Rattle.uses.specs.Cose.{BeginsBytes, BeginsMap, BeginsPayload, BeginsSign1, BodyFails, EndsPairs, StopsAtPart};
 ghost use Rattle.uses.specs.Cose.{SkipsPairs, StopsSign1, Took, TookBody, TookMap, TookPayload, TookString};
@@ -101,7 +102,7 @@ pub fn read_sign1<'a>(bytes: &'a [u8]) -> Result<Sign1, CoseError<EndOfFile>>
 
 /// Takes the title of this header.
 fn title<R: Read>(decoder: &mut Decoder<R>, header: Header) -> Result<(), CoseError<R::Error>>
-    requires strict { strict_of decoder.old ≡ true }
+    requires strict { spelling_of decoder.old ≡ Shortest }
     requires none_waits { waiting_of decoder.old ≡ None }
     ensures took { OnOk result (Took R.Read decoder.old (shortest_title header) decoder.new) }
     ensures stops { IfErr result (λ error. StopsAtPart R.Read (λ other. other ≡ header) decoder.old error decoder.new) }
@@ -117,7 +118,7 @@ fn title<R: Read>(decoder: &mut Decoder<R>, header: Header) -> Result<(), CoseEr
 
 /// Takes the next byte string, and returns the span of its body.
 fn byte_string<R: Read>(decoder: &mut Decoder<R>) -> Result<Span, CoseError<R::Error>>
-    requires strict { strict_of decoder.old ≡ true }
+    requires strict { spelling_of decoder.old ≡ Shortest }
     requires none_waits { waiting_of decoder.old ≡ None }
     ensures took { IfOk result (λ span. TookString R.Read decoder.old span decoder.new) }
     ensures stops { IfErr result (λ error. StopsAtPart R.Read BeginsBytes decoder.old error decoder.new) }
@@ -133,7 +134,7 @@ fn byte_string<R: Read>(decoder: &mut Decoder<R>) -> Result<Span, CoseError<R::E
 fn byte_string_or_null<R: Read>(
     decoder: &mut Decoder<R>,
 ) -> Result<Option<Span>, CoseError<R::Error>>
-    requires strict { strict_of decoder.old ≡ true }
+    requires strict { spelling_of decoder.old ≡ Shortest }
     requires none_waits { waiting_of decoder.old ≡ None }
     ensures took { IfOk result (λ span. TookPayload R.Read decoder.old span decoder.new) }
     ensures stops { IfErr result (λ error. StopsAtPart R.Read BeginsPayload decoder.old error decoder.new) }
@@ -166,7 +167,7 @@ fn body<R: Read>(decoder: &mut Decoder<R>, len: usize) -> Result<Span, Error<R::
 
 /// Takes the next map, and returns its span.
 fn map<R: Read>(decoder: &mut Decoder<R>) -> Result<Span, CoseError<R::Error>>
-    requires strict { strict_of decoder.old ≡ true }
+    requires strict { spelling_of decoder.old ≡ Shortest }
     requires none_waits { waiting_of decoder.old ≡ None }
     ensures took { IfOk result (λ span. TookMap R.Read decoder.old span decoder.new) }
     ensures stops { IfErr result (λ error. StopsAtPart R.Read BeginsMap decoder.old error decoder.new) }

@@ -2,8 +2,8 @@
 
 ghost use Rattle.std.specs.Prelude.{◌≡◌, ◌≤◌, [], IfErr, IfOk, OnOk};
 ghost use Rattle.std.specs.Prelude.{length, string_bytes, string_len};
-ghost use Rattle.ciborium_ll.specs.Decoding.{MovesOn, strict_of};
-ghost use Rattle.ciborium_ll.specs.Segments.{progress_of, string_decoder, string_reference, string_strict};
+ghost use Rattle.ciborium_ll.specs.Decoding.{MovesOn, spelling_of};
+ghost use Rattle.ciborium_ll.specs.Segments.{progress_of, string_decoder, string_reference, string_spelling};
 ghost use Rattle.uses.specs.Texts.{GathersAll, GathersText, ReadsText, SegmentsStop, StopsText};
 
 use ciborium_ll::io::{OutOfMemory, Read, VecWriter};
@@ -79,7 +79,7 @@ fn read_segments<R: Read>(
     limit: usize,
 ) -> Result<(), TextError<R::Error>>
     requires empty { text.old.bytes.items ≡ [] }
-    requires mode { string_strict segments.old ≡ strict_of (string_decoder segments.old) }
+    requires mode { string_spelling segments.old ≡ spelling_of (string_decoder segments.old) }
     ensures limited { OnOk result (length text.new.bytes.items ≤ limit) }
     ensures gathers { OnOk result (GathersAll R.Read limit (progress_of segments.old) (string_decoder segments.old)
         text.new.bytes.items (string_decoder segments.new)) }

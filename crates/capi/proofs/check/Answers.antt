@@ -1,4 +1,5 @@
-use Rattle.std.proofs.Common.{ℕ, true, length, [], refl, sym, inr, arith, ◌∙◌}
+use Rattle.std.proofs.Common.{ℕ, length, [], refl, sym, inr, arith, ◌∙◌}
+use Rattle.ciborium_ll_grammar.specs.declared.spelling.Spelling.TheVariants.{Shortest}
 use Rattle.ciborium_ll.specs.Sides.{sides}
 use Rattle.ciborium_ll_recode.proofs.RecodeReadyLaws.{recode_told, recode_exactly}
 use Rattle.capi.proofs.CopyLaws.{check_said, copy_exactly, ready_to_copy}
@@ -15,7 +16,7 @@ returns c =
     let copied = c.copy_counted-copied.result in
     let all = c.copy_counted-copied.ensures.copied in
     let stop = c.stop_of_copy-answer in
-    let ready = λ (n : ℕ). ready_to_copy _ _ true n 1024 (length due) c.new.result old writer due
+    let ready = λ (n : ℕ). ready_to_copy _ _ Shortest n 1024 (length due) c.new.result old writer due
     c.strict-decoder.ensures refl
     c.new.ensures.ahead c.new-writer.ensures.written c.new-writer.ensures.room (inr (omega arith)) (omega arith)
     (omega arith) in

@@ -1,5 +1,5 @@
 use Rattle.capi.proofs.cll_item_copier_end.Goals as goal
 
 pub returns-clause-ended : goal.returns-clause-ended
-returns-clause-ended c = λ strict depth read written kept.
-    (c.end.result, c.code.ensures, c.end.ensures.ended strict depth read written kept)
+returns-clause-ended c = λ allowed depth read written kept.
+    (c.end.result, c.code.ensures, c.end.ensures.ended allowed depth read written kept)

@@ -1,5 +1,5 @@
 use Rattle.capi.proofs.cll_item_copier_feed.Goals as goal
 
 pub returns-clause-fed : goal.returns-clause-fed
-returns-clause-fed c = λ strict depth read written kept.
-    (c.feed.result, c.code.ensures, c.feed.ensures.fed strict depth read written kept)
+returns-clause-fed c = λ allowed depth read written kept.
+    (c.feed.result, c.code.ensures, c.feed.ensures.fed allowed depth read written kept)

@@ -1,4 +1,5 @@
-use Rattle.std.proofs.Common.{false, length, ap, ◌∙◌, [], refl, sym, arith}
+use Rattle.std.proofs.Common.{length, ap, ◌∙◌, [], refl, sym, arith}
+use Rattle.ciborium_ll_grammar.specs.declared.spelling.Spelling.TheVariants.{Any}
 use Rattle.capi.proofs.CopyLaws.{anyhow_said, copy_exactly, copy_said, ready_to_copy, stands_behind}
 use Rattle.capi.proofs.CopyLaws.{told_to_copy}
 use Rattle.capi.proofs.CountLaws.{counts_said}
@@ -26,7 +27,7 @@ returns c =
     let stands = stands_behind behind writer output_is c.args.out.now _ target c.new-writer.ensures.before
     c.written-written.ensures.slice ended in
     let ready = λ (room : HasRoom c.args.count due (length c.args.out.now)).
-    ready_to_copy _ _ false c.args.count 1024 (length c.args.out.now) c.new.result old writer due
+    ready_to_copy _ _ Any c.args.count 1024 (length c.args.out.now) c.new.result old writer due
     c.from-decoder.ensures refl
     c.new.ensures.ahead c.new-writer.ensures.written c.new-writer.ensures.room room (omega arith) (omega arith) in
     record {
@@ -42,15 +43,15 @@ returns c =
       anyhow =
           anyhow_said _ _ c.args.count due old new writer behind copied c.say_elements.new.self output_is c.args.out.now _
           stop.result.0 stop.result.1 c.offset.result all refl
-          (told_to_copy _ _ false c.new.result old writer due c.from-decoder.ensures c.new.ensures.ahead
+          (told_to_copy _ _ Any c.new.result old writer due c.from-decoder.ensures c.new.ensures.ahead
           c.new-writer.ensures.written)
           c.new-writer.ensures.room (omega arith) c.from-decoder.ensures.offset output stop.ensures.answer
           stop.ensures.place c.offset.ensures.value c.say_elements.ensures.reports stands;
       counted =
           counts_said _ _ c.args.count due old new writer behind c.say_elements.new.self (length c.args.out.now) refl
-          (told_to_copy _ _ false c.new.result old writer due c.from-decoder.ensures c.new.ensures.ahead
+          (told_to_copy _ _ Any c.new.result old writer due c.from-decoder.ensures c.new.ensures.ahead
           c.new-writer.ensures.written)
-          (λ n room. ready_to_copy _ _ false n 1024 (length c.args.out.now) c.new.result old writer due
+          (λ n room. ready_to_copy _ _ Any n 1024 (length c.args.out.now) c.new.result old writer due
           c.from-decoder.ensures refl c.new.ensures.ahead c.new-writer.ensures.written c.new-writer.ensures.room room
           (omega arith) (omega arith))
           (omega arith) c.from-decoder.ensures.offset

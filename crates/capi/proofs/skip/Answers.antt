@@ -1,5 +1,5 @@
 use Rattle.std.proofs.Common.{refl, arith}
-use Rattle.ciborium_ll_decoder.specs.Decoding.{strict_of}
+use Rattle.ciborium_ll_decoder.specs.Decoding.{spelling_of}
 use Rattle.capi.proofs.SkipLaws.{ready_to_skip, skip_exactly, skip_said}
 use Rattle.capi.proofs.skip.Goals as goal
 
@@ -16,7 +16,7 @@ returns c =
           (ready_to_skip _ 1024 c.new.result old due c.from-decoder.ensures refl c.new.ensures.ahead
           (omega arith) (omega arith)))
           c.from-decoder.ensures.mode c.from-decoder.ensures.offset stop.ensures.answer stop.ensures.place c.offset.ensures.value c.say.ensures;
-      exactly = skip_exactly (strict_of old) c.args.depth due skipped stop.result.0 stop.ensures.answer
+      exactly = skip_exactly (spelling_of old) c.args.depth due skipped stop.result.0 stop.ensures.answer
           (c.skip_item-skipped.ensures.exactly due
           (ready_to_skip _ 1024 c.new.result old due c.from-decoder.ensures refl c.new.ensures.ahead
           (omega arith) (omega arith))) c.from-decoder.ensures.mode;

@@ -5,7 +5,6 @@ ghost use Rattle.ciborium_ll.specs.Decoding.{MovesOn, offset_of, waiting_of};
 ghost use Rattle.ciborium_ll.specs.Finishing.{EndsBody};
 ghost use Rattle.ciborium_ll.specs.Skipping.{SkipsString};
 ghost use Rattle.ciborium_ll.specs.Sides.{sides};
-ghost use Rattle.ciborium_ll.specs.Spellings.{is_shortest};
 ghost use Rattle.cbor_diag.specs.declared.strings.TheConstants.{BUFFER_SIZE};
 ghost use Rattle.cbor_diag.specs.Marks.{mark_text};
 ghost use Rattle.cbor_diag.specs.NextShows.{IsNext, ShowsNext};
@@ -116,7 +115,7 @@ fn show_next<R: Read, W: Write, P: Chunked>(
 
 /// Returns what a title of this header begins or ends within a string of the kind.
 fn next_of<P: Chunked>(header: Header, spelling: Spelling) -> Next
-    ensures { IsNext P.kind (is_shortest spelling) header result }
+    ensures { IsNext P.kind spelling header result }
 {
     match P::length(header) {
         Some(Some(len)) => Next::String(len),

@@ -2,6 +2,7 @@
 
 ghost use Rattle.std.specs.Prelude.{◌≡◌, ◌≤◌, ◌∷◌, ◌++◌, [], ℕ, false, List, length};
 ghost use Rattle.std.specs.List.{All};
+ghost use Rattle.ciborium_ll_grammar.specs.declared.spelling.Spelling.TheVariants.{Any};
 ghost use Rattle.ciborium_ll_grammar.specs.Strings.{Bytes, Text};
 ghost use Rattle.ciborium_ll_grammar.specs.Elements.{Mark, Plain, IsPlain, IsRun, spelling};
 ghost use Rattle.ciborium_ll_encoder.specs.Encoding.{writer_of};
@@ -113,7 +114,7 @@ pub fn copy_spelled<R: Read, W: Write>(
     ensures copied { Recodes R.Read W.Write count (length buffer.old) (sides_of decoder.old encoder.old) result
         (sides_of decoder.new encoder.new) }
     ensures same { (marks : List Mark) (rest written : List ℕ) → IsRun count (spelling marks) marks
-        → IsReady R.Read W.Write false count (length buffer.old) (sides_of decoder.old encoder.old)
+        → IsReady R.Read W.Write Any count (length buffer.old) (sides_of decoder.old encoder.old)
         (spelling marks ++ rest) written
         → CopiesSame R.Read W.Write (spelling marks) rest written result decoder.new (writer_of encoder.new) }
 {

@@ -4,9 +4,9 @@ ghost use Rattle.std.specs.Prelude.{◌≡◌, ◌≤◌, None};
 ghost use Rattle.ciborium_ll_grammar.specs.Title.{title_len};
 ghost use Rattle.ciborium_ll_grammar.specs.Strings.{kind_header};
 ghost use Rattle.ciborium_ll_decoder.specs.declared.seg.Progress.TheVariants.{Open};
-ghost use Rattle.ciborium_ll_decoder.specs.Decoding.{offset_of, strict_of, waiting_of};
+ghost use Rattle.ciborium_ll_decoder.specs.Decoding.{offset_of, spelling_of, waiting_of};
 ghost use Rattle.ciborium_ll_decoder.specs.Segments.{BeginsString, progress_of, string_decoder};
-ghost use Rattle.ciborium_ll_decoder.specs.Segments.{string_reference, string_strict};
+ghost use Rattle.ciborium_ll_decoder.specs.Segments.{string_reference, string_spelling};
 
 use crate::dec::Decoder;
 use crate::seg::{Bytes, Parser, Progress, Segments, Text};
@@ -52,7 +52,7 @@ impl<R: Read> Decoder<R> {
 pub fn open_segments<R: Read, P: Parser>(decoder: &mut Decoder<R>) -> Segments<'_, R, P>
     ensures lent { string_decoder result ≡ decoder.old }
     ensures opened { progress_of result ≡ Open 1 }
-    ensures mode { string_strict result ≡ strict_of decoder.old }
+    ensures mode { string_spelling result ≡ spelling_of decoder.old }
     ensures same_reference { string_reference result ≡ decoder.entry.ghost_name }
 {
     let spelling = decoder.spelling();

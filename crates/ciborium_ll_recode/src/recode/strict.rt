@@ -1,6 +1,7 @@
 //! Whether bytes are elements in the one spelling that a strict decoder takes.
 
 ghost use Rattle.std.specs.Prelude.{◌≤◌, true, List, length, take, IfSome, IfNone};
+ghost use Rattle.ciborium_ll_grammar.specs.declared.spelling.Spelling.TheVariants.{Shortest};
 ghost use Rattle.ciborium_ll_grammar.specs.Elements.{IsStrictRun, Mark};
 ghost use Rattle.ciborium_ll_grammar.specs.Faults.{BeginsWithElements};
 
@@ -22,7 +23,7 @@ use ciborium_ll_io::io::{Discard, SliceReader};
 pub fn strict_len(bytes: &[u8], count: usize) -> Option<usize>
     ensures within { IfSome result (λ len. len ≤ length bytes.now) }
     ensures some { IfSome result (λ len. (marks : List Mark) × IsStrictRun count (take len bytes.now) marks) }
-    ensures none { IfNone result (BeginsWithElements true count bytes.now → ⊥) }
+    ensures none { IfNone result (BeginsWithElements Shortest count bytes.now → ⊥) }
 {
     let mut decoder = Decoder::strict(SliceReader::new(bytes));
     // A strict copy writes the bytes that it consumes, so that many bytes are room enough.

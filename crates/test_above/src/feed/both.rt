@@ -90,7 +90,7 @@ fn is_right(
     if bytes.len() > 64 || depth > 256 {
         return false;
     }
-    let (progress, outcome) = feed_and_skip(bytes, spelling.is_shortest(), depth);
+    let (progress, outcome) = feed_and_skip(bytes, spelling, depth);
     progress == want && skipped_of(outcome) == skipped
 }
 

@@ -16,8 +16,8 @@ long_long (r.Fault (f.Break place)) is = absurd cc
 long_long (r.Fault (f.Deep place)) is = absurd cc
 
 pub returns-clause-fed : goal.returns-clause-fed
-returns-clause-fed c = λ strict depth read kept.
-    let (keeps, so) = c.in-Some.ensures.read strict depth read kept.state in
+returns-clause-fed c = λ allowed depth read kept.
+    let (keeps, so) = c.in-Some.ensures.read allowed depth read kept.state in
     let told = c.told_progress-told.ensures in
     record {
       taken = search (rules, so.taken);
@@ -31,7 +31,7 @@ returns-clause-fed c = λ strict depth read kept.
       answers = λ some checker has_read.
           let same = rw c.say-2.ensures.consumed_is at has_read in
           let answers = answers_unless checker c.in-Some.feed.progress
-          (c.in-Some.ensures.is strict depth read kept.state checker same)
+          (c.in-Some.ensures.is allowed depth read kept.state checker same)
           (λ far. some (told.answer ∙ ap progress_answer far)) in
           (c.in-Some.feed.progress, answers, told.answer, c.say-2.ensures.place_is ∙ told.number);
     }

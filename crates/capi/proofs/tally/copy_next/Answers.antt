@@ -21,5 +21,9 @@ returns-clause-copied g c =
     let none : c.in_ok-copied.copied ≡ 0 = omega (arith, c.if-copied-gt0.false) in
     let run = subst (λ (n : ℕ). CopiesRun g.R.Read g.W.Write n old now) none c.in_ok-copied.ensures.run.1 in
     let is_ok : c.copy_one.result ≡ Ok (tt {0}) = search rules in
-    let copied = rw is_ok at c.copy_one.ensures.copied in
-    (omega arith, omega (arith, c.requires.some), copied 1 0 old (run_behind g.R.Read g.W.Write 1 0 old now (omega arith) run))
+    let copied = rw is_ok at c.copy_one.ensures.copied in (
+      omega arith,
+      omega (arith, c.requires.some),
+      copied 1 0 old
+          (run_behind g.R.Read g.W.Write 1 0 old now (omega arith) run),
+    )

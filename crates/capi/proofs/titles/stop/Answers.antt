@@ -1,5 +1,6 @@
-use Rattle.std.proofs.Common.{false, drop, subst, arith}
+use Rattle.std.proofs.Common.{drop, subst, arith}
 use Rattle.std.proofs.lemmas.List.{take_rest, length-drop}
+use Rattle.ciborium_ll_grammar.specs.declared.spelling.Spelling.TheVariants.{Any}
 use Rattle.cbor_skip.specs.ItemFaults.{BeginsWithItem}
 use Rattle.capi.proofs.TitleReads.{no_item, place_told, stops_short, stops_fault}
 use Rattle.capi.proofs.titles.stop.Goals as goal
@@ -8,7 +9,7 @@ use Rattle.capi.proofs.titles.stop.Goals.{in-Short, in_default}
 pub due_behind-place-requires-clause-cut : goal.due_behind-place-requires-clause-cut
 due_behind-place-requires-clause-cut c = λ front.
     no_item (drop c.args.taken c.args.bytes.now) c.requires.none 1
-    (subst (BeginsWithItem false 1) (take_rest c.args.bytes.now c.args.taken) front)
+    (subst (BeginsWithItem Any 1) (take_rest c.args.bytes.now c.args.taken) front)
 
 pub overflow_add-place : goal.overflow_add-place
 overflow_add-place c =

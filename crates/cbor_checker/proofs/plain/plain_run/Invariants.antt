@@ -1,5 +1,4 @@
 use Rattle.std.proofs.Common.{◌-◌, ◌<◌, ◌≤◌, take, length}
-use Rattle.ciborium_ll_grammar.specs.Spellings.{is_shortest}
 use Rattle.cbor_checker.specs.Plain.{ArePlain}
 use Rattle.cbor_checker.proofs.plain.plain_run.Given as goal
 
@@ -9,7 +8,7 @@ invariant-runs l =
       within : l.run.len ≤ length l.bytes;
       most : l.run.left ≤ l.most;
       some : l.run.left < l.most → 0 < l.run.len;
-      plain : ArePlain (is_shortest l.spelling) l.offset l.fn.place (l.most - l.run.left) l.place
+      plain : ArePlain l.spelling l.offset l.fn.place (l.most - l.run.left) l.place
           (take l.run.len l.bytes);
     }
 

@@ -11,7 +11,8 @@ texts-init c =
       within = omega arith;
       most = omega arith;
       some = λ less. absurd (omega (arith, less));
-      plain = λ strict. subst (λ (z : ℕ). ArePlain strict c.args.offset c.args.place.now z c.args.place.now []) no_items none;
+      plain = λ allowed. subst (λ (z : ℕ). ArePlain allowed c.args.offset c.args.place.now z c.args.place.now [])
+          no_items none;
     }
 
 pub texts-preserved : goal.texts-preserved
@@ -21,12 +22,13 @@ texts-preserved c =
       within = search rules;
       most = omega (arith, c.texts.invariant.most);
       some = λ less. omega (arith, some);
-      plain = λ strict.
+      plain = λ allowed.
           let xs = c.args.bytes.now in
           let at = c.texts.at in
-          let one : IsPlainItem strict (take c.text_len-len.result (take (length xs - at) (drop at xs))) =
-          c.text_len-len.ensures.plain strict some in
-          plain_more strict c.args.offset c.args.place.now c.texts.last c.args.most c.texts.left at c.text_len-len.result xs
-          c.texts.invariant.within c.texts-test.true c.texts.invariant.most (c.texts.invariant.plain strict)
+          let one : IsPlainItem allowed (take c.text_len-len.result (take (length xs - at) (drop at xs))) =
+          c.text_len-len.ensures.plain allowed some in
+          plain_more allowed c.args.offset c.args.place.now c.texts.last c.args.most c.texts.left at
+          c.text_len-len.result xs
+          c.texts.invariant.within c.texts-test.true c.texts.invariant.most (c.texts.invariant.plain allowed)
           (rw take_rest at one);
     }

@@ -1,24 +1,24 @@
 use Rattle.std.proofs.Common.{rules, sym, ◌∙◌}
-use Rattle.std.proofs.lemmas.Bool.{true≢false}
-use Rattle.ciborium_ll_grammar.specs.Spellings.{is_shortest}
+use Rattle.ciborium_ll_grammar.proofs.SpellingLaws.{any_allowed, only_shortest}
 use Rattle.cbor_checker.proofs.LongerBegun.{parts_none, refused_none, some_taken, none_means}
 use Rattle.cbor_checker.proofs.title.taken_header.Goals as goal
+use Rattle.cbor_checker.proofs.title.taken_header.Goals.{}
 use Rattle.cbor_checker.proofs.title.taken_header.Goals.{else-is_shortest-via-then-is_shortest+else-is_refused_when_strict}
 use Rattle.cbor_checker.proofs.title.taken_header.Goals.{else-is_shortest-via-else-is_shortest}
 
 pub returns-then-is_refused_when_strict-clause-none : goal.returns-then-is_refused_when_strict-clause-none
 returns-then-is_refused_when_strict-clause-none c =
-    let strict = sym c.is_shortest.ensures ∙ c.if-is_shortest.true in
-    rw strict (parts_none c.in_ok-title.title.major c.in_ok-title.title.minor c.args.bytes.now (search rules)
+    let allowed = only_shortest c.args.spelling (sym c.is_shortest.ensures ∙ c.if-is_shortest.true) in
+    rw allowed (parts_none c.in_ok-title.title.major c.in_ok-title.title.minor c.args.bytes.now (search rules)
     (search rules) (search rules) c.in_ok-title.ensures.bytes)
 
 pub returns-clause-taken : goal.returns-clause-taken
 returns-clause-taken c =
-    some_taken c.header.result (is_shortest c.args.spelling) c.in_ok-title.title.major c.in_ok-title.title.minor
-    c.args.bytes.now (search rules) (search rules) (λ strict. elim c.else-is_shortest.branch [
+    some_taken c.header.result c.args.spelling c.in_ok-title.title.major c.in_ok-title.title.minor
+    c.args.bytes.now (search rules) (search rules) (λ shortest. elim c.else-is_shortest.branch [
       | else-is_shortest-via-then-is_shortest+else-is_refused_when_strict w ↦ search rules
       | else-is_shortest-via-else-is_shortest w ↦ absurd
-          (true≢false (sym (c.is_shortest.ensures ∙ strict) ∙ w.if-is_shortest.false))
+          (let any = any_allowed c.args.spelling (sym c.is_shortest.ensures ∙ w.if-is_shortest.false) in cc)
     ]) c.in_ok-title.ensures.bytes c.header.ensures.some
 
 pub returns-clause-none : goal.returns-clause-none
@@ -28,4 +28,4 @@ returns-clause-none c =
 
 pub returns-in_err-title-clause-none : goal.returns-in_err-title-clause-none
 returns-in_err-title-clause-none c =
-    rw c.from_residual.ensures (refused_none (is_shortest c.args.spelling) c.args.bytes.now c.in_err-title.ensures.none)
+    rw c.from_residual.ensures (refused_none c.args.spelling c.args.bytes.now c.in_err-title.ensures.none)

@@ -1,4 +1,5 @@
-use Rattle.std.proofs.Common.{◌≡◌, ℕ, ◌+◌, ◌-◌, ◌/◌, ◌∙◌, List, length, length-drop, drop, drop-drop, take, arith, slice_index}
+use Rattle.std.proofs.Common.{◌≡◌, ℕ, ◌+◌, ◌-◌, ◌/◌, ◌∙◌, List, length, length-drop, drop, drop-drop, take, arith}
+use Rattle.std.proofs.Common.{slice_index}
 use Rattle.std.proofs.Common.{add-zero, sym}
 use Rattle.std.proofs.lemmas.List.{get_or-drop}
 use Rattle.ciborium_ll_text.specs.Text.{IsCharacters}

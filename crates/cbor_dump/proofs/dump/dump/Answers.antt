@@ -1,5 +1,4 @@
 use Rattle.std.proofs.Common.{[], ◌++◌, length, Err, refl, ◌∙◌, arith}
-use Rattle.ciborium_ll.specs.Spellings.{is_shortest}
 use Rattle.ciborium_ll.proofs.DecodingLaws.{exit_is}
 use Rattle.cbor_dump.specs.Checking.{ReadsAsCheck}
 use Rattle.cbor_dump.specs.Dumps.{AreRowsTaken, IsErrorOfItem}
@@ -24,9 +23,9 @@ titles-init g c = (
     bytes = [];
     shows = shows_none g.R.Read c.args.depth _ _ [] _;
     whole = 0;
-    due = c.new-walk.ensures (is_shortest c.args.spelling);
-    came = λ alike. comes_first g.R.Read (is_shortest c.args.spelling) c.args.depth c.new-walk.result c.args.decoder.now
-        (c.new-walk.ensures (is_shortest c.args.spelling)) alike;
+    due = c.new-walk.ensures c.args.spelling;
+    came = λ alike. comes_first g.R.Read c.args.spelling c.args.depth c.new-walk.result c.args.decoder.now
+        (c.new-walk.ensures c.args.spelling) alike;
   },
   λ waits. (refl, refl),
   reads_on g.R.Read c.args.decoder.now,
@@ -41,19 +40,19 @@ returns-in-Err g c =
     let level = c.level-level.ensures.value in
     let place = c.offset-place.ensures.value in
     let ended = c.ended.ensures.ends in
-    let reads : IsInMode (is_shortest c.args.spelling) c.args.decoder.now → AreRowsTaken c.ended.result
+    let reads : IsInMode c.args.spelling c.args.decoder.now → AreRowsTaken c.ended.result
     → ReadsAsCheck g.R.Read c.args.depth c.args.decoder.now c.ended.result c.read_title.new.decoder =
     λ alike all.
     let come = up.came alike in
-    let here = comes_alike g.R.Read (is_shortest c.args.spelling) c.args.depth c.titles.walk _ _ come in
+    let here = comes_alike g.R.Read c.args.spelling c.args.depth c.titles.walk _ _ come in
     let fails = (rw (c.offset-place.ensures.same, c.in-Err.is) at c.read_title.ensures.pulls) here place in
-    comes_end g.R.Read (is_shortest c.args.spelling) c.args.depth c.titles.walk _ _ come c.in-Err.error (length row) _
+    comes_end g.R.Read c.args.spelling c.args.depth c.titles.walk _ _ come c.in-Err.error (length row) _
     c.ended.result
     (let used = come.due.keeps.used in let same = come.due.keeps.same_depth in omega (arith, used, same)) fails
     takes.offset (rw level at ended) all
     in
     record {
-      shows = λ all. up_ended g.R.Read (is_shortest c.args.spelling) c.args.depth _ _ _ c.titles.walk row
+      shows = λ all. up_ended g.R.Read c.args.spelling c.args.depth _ _ _ c.titles.walk row
           c.offset-place.result
           c.level-level.result _ _ _ c.in-Err.error c.ended.result up takes place level (c.ended.ensures.draws all)
           ended (rw c.in-Err.is at c.read_title.ensures.row)
@@ -77,9 +76,9 @@ returns-in-Err g c =
           let but = c.ended.ensures.refused all in
           record {
             row = but.row;
-            how = ending_of (is_shortest c.args.spelling) c.in-Err.error;
+            how = ending_of c.args.spelling c.in-Err.error;
             bytes = up.bytes ++ row;
-            shows = up_fails g.R.Read (is_shortest c.args.spelling) c.in-Err.error c.args.depth _ _ _ c.titles.walk row
+            shows = up_fails g.R.Read c.args.spelling c.in-Err.error c.args.depth _ _ _ c.titles.walk row
                 c.offset-place.result c.level-level.result _ _ _ up takes place level but.draws
                 (rw c.in-Err.is at c.read_title.ensures.row) (row_few c.read_title.new.self)
                 (rw (c.offset-place.ensures.same, c.in-Err.is) at c.read_title.ensures.left);
@@ -99,7 +98,7 @@ title-requires g c =
     let up = c.titles.invariant.0 in
     let begun = up.shows.takes.offset in
     let used = up.due.keeps.used in
-    let few = nests_few (is_shortest c.args.spelling) c.args.depth up.whole up.due.nests up.bytes up.due.within in
+    let few = nests_few c.args.spelling c.args.depth up.whole up.due.nests up.bytes up.due.within in
     let titled : IsTitle row c.in-Ok.header = rw c.in-Ok.is at c.read_title.ensures.title in
     let some = title_some row c.in-Ok.header titled in
     record { behind = omega (arith, moved, begun, used, few, some) }
@@ -116,23 +115,23 @@ returns-in_err-title g c =
     let begun = up.shows.takes.offset in
     let place = c.offset-place.ensures.value in
     let titled : IsTitle row c.in-Ok.header = rw c.in-Ok.is at c.read_title.ensures.title in
-    let taken : IsTakenTitle (is_shortest c.args.spelling) row c.in-Ok.header = rw c.in-Ok.is at
+    let taken : IsTakenTitle c.args.spelling row c.in-Ok.header = rw c.in-Ok.is at
     c.read_title.ensures.taken in
     let some = title_some row c.in-Ok.header titled in
-    let reads : IsInMode (is_shortest c.args.spelling) c.args.decoder.now → IsErrorOfItem error
+    let reads : IsInMode c.args.spelling c.args.decoder.now → IsErrorOfItem error
     → ReadsAsCheck g.R.Read c.args.depth c.args.decoder.now (Err error)
     c.title.new.decoder = λ alike all.
     let come = up.came alike in
-    let here = comes_alike g.R.Read (is_shortest c.args.spelling) c.args.depth c.titles.walk _ _ come in
+    let here = comes_alike g.R.Read c.args.spelling c.args.depth c.titles.walk _ _ come in
     let went = (rw (c.offset-place.ensures.same, c.in-Ok.is) at c.read_title.ensures.passes) here.none_waits in
     let pulls = (rw (c.offset-place.ensures.same, c.in-Ok.is) at c.read_title.ensures.pulls) here place in
     let at = come.passed.offset in
     let title = c.in_err-title.ensures.shows c.args.depth 0 come.between.offset come.bytes come.due titled taken
     (omega (arith, place, at)) (omega (arith, place, moved)) all in
     let behind = title.shows.takes.offset in
-    comes_title g.R.Read (is_shortest c.args.spelling) c.args.depth c.titles.walk _ _ come error c.in-Ok.header
+    comes_title g.R.Read c.args.spelling c.args.depth c.titles.walk _ _ come error c.in-Ok.header
     c.offset-place.result _ _ pulls.0 pulls.1 place (omega (arith, behind)) (omega (arith, moved, some))
-    (title.stops (passes_alike g.R.Read (is_shortest c.args.spelling) _ _ row went here)) all
+    (title.stops (passes_alike g.R.Read c.args.spelling _ _ row went here)) all
     in
     record {
       shows = λ all.
@@ -140,7 +139,7 @@ returns-in_err-title g c =
           titled taken (omega (arith, place, begun)) (omega (arith, place, moved)) all in
           record {
             bytes = up.bytes ++ (row ++ title.bytes);
-            shows = up_title g.R.Read (is_shortest c.args.spelling) c.args.depth up.whole _ _ _ _ _ up.bytes _ row _ _ _
+            shows = up_title g.R.Read c.args.spelling c.args.depth up.whole _ _ _ _ _ up.bytes _ row _ _ _
                 _ _ up.shows
                 takes title;
             whole = tt;
@@ -180,7 +179,7 @@ titles-smaller g c =
     let begun = up.shows.takes.offset in
     let place = c.offset-place.ensures.value in
     let titled : IsTitle row c.in-Ok.header = rw c.in-Ok.is at c.read_title.ensures.title in
-    let taken : IsTakenTitle (is_shortest c.args.spelling) row c.in-Ok.header = rw c.in-Ok.is at
+    let taken : IsTakenTitle c.args.spelling row c.in-Ok.header = rw c.in-Ok.is at
     c.read_title.ensures.taken in
     let some = title_some row c.in-Ok.header titled in
     let title = c.in_ok-title.ensures.shows c.args.depth up.whole c.args.decoder.now.offset up.bytes
@@ -198,27 +197,27 @@ titles-preserved g c = (
       let begun = up.shows.takes.offset in
       let place = c.offset-place.ensures.value in
       let titled : IsTitle row c.in-Ok.header = rw c.in-Ok.is at c.read_title.ensures.title in
-      let taken : IsTakenTitle (is_shortest c.args.spelling) row c.in-Ok.header = rw c.in-Ok.is at
+      let taken : IsTakenTitle c.args.spelling row c.in-Ok.header = rw c.in-Ok.is at
       c.read_title.ensures.taken in
       let title = c.in_ok-title.ensures.shows c.args.depth up.whole c.args.decoder.now.offset up.bytes
       up.due titled taken (omega (arith, place, begun)) (omega (arith, place, moved)) tt in
       record {
         bytes = up.bytes ++ (row ++ title.bytes);
-        shows = up_title g.R.Read (is_shortest c.args.spelling) c.args.depth up.whole _ _ _ _ _ up.bytes _ row _ _ _ _ _
+        shows = up_title g.R.Read c.args.spelling c.args.depth up.whole _ _ _ _ _ up.bytes _ row _ _ _ _ _
             up.shows
             takes title;
         whole = _;
         due = title.due;
         came = λ alike.
             let come = up.came alike in
-            let here = comes_alike g.R.Read (is_shortest c.args.spelling) c.args.depth c.titles.walk _ _ come in
+            let here = comes_alike g.R.Read c.args.spelling c.args.depth c.titles.walk _ _ come in
             let went = (rw (c.offset-place.ensures.same, c.in-Ok.is) at c.read_title.ensures.passes) here.none_waits in
             let at = come.passed.offset in
             let next = c.in_ok-title.ensures.shows c.args.depth 0 come.between.offset come.bytes
             come.due titled taken (omega (arith, place, at)) (omega (arith, place, moved)) tt in
-            comes_next g.R.Read (is_shortest c.args.spelling) c.args.depth c.titles.walk _ _ _ _ _ come row next.bytes
+            comes_next g.R.Read c.args.spelling c.args.depth c.titles.walk _ _ _ _ _ come row next.bytes
             went
-            (next.passed (passes_alike g.R.Read (is_shortest c.args.spelling) _ _ row went here)) next.due;
+            (next.passed (passes_alike g.R.Read c.args.spelling _ _ row went here)) next.due;
       },
   λ waits.
       let still = c.titles.invariant.1 waits in

@@ -1,5 +1,4 @@
 use Rattle.std.proofs.Common.{◌≡◌, ◌-◌, ◌^◌}
-use Rattle.ciborium_ll.specs.Spellings.{is_shortest}
 use Rattle.ciborium_ll.specs.Decoding.{IsWaiting}
 use Rattle.cbor_dump.specs.Takings.{ReadsOn}
 use Rattle.cbor_dump.proofs.TitleLaws.{UpTo}
@@ -7,7 +6,7 @@ use Rattle.cbor_dump.proofs.dump.dump.Given as goal
 
 abbrev pub invariant-titles : goal.invariant-titles
 invariant-titles g l =
-    UpTo g.R.Read (is_shortest l.spelling) l.depth (g.S.Rows.drawn l.fn.rows) (g.S.Rows.drawn l.rows) l.walk
+    UpTo g.R.Read l.spelling l.depth (g.S.Rows.drawn l.fn.rows) (g.S.Rows.drawn l.rows) l.walk
     l.fn.decoder l.decoder
     × (IsWaiting l.fn.decoder → (l.decoder ≡ l.fn.decoder) × (l.rows ≡ l.fn.rows))
     × ReadsOn g.R.Read l.fn.decoder l.decoder

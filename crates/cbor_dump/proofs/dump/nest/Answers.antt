@@ -10,13 +10,13 @@ returns-in_err-shown g c =
     let error = c.in_err-shown.field-0.0 in
     let same = exit_is c.from_residual.result error c.from_residual.ensures.1 in
     rw same (record {
-      draws = λ strict depth whole start before due p taken at all.
+      draws = λ allowed depth whole start before due p taken at all.
           absurd (not_taken error c.in_err-shown.ensures.refusal all);
-      refused = λ strict depth whole start before due p at all.
+      refused = λ allowed depth whole start before due p at all.
           let but = c.in_err-shown.ensures.refused c.in_err-shown.ensures.refusal in
           record {
             row = but.row;
-            lines = walk_line strict depth whole start _ _ before _ c.args.header c.level-level.result c.args.place
+            lines = walk_line allowed depth whole start _ _ before _ c.args.header c.level-level.result c.args.place
                 c.within-within.result
                 c.args.walk.now due p (nest_level c.args.header due.nests 0 c.requires.nest)
                 (nest_place depth c.args.header due.nests before _ c.requires.nest)
@@ -27,8 +27,8 @@ returns-in_err-shown g c =
 
 pub returns-in-Deep : goal.returns-in-Deep
 returns-in-Deep g c = record {
-  draws = λ strict depth whole start before due p taken at all. record {
-    lines = walk_line strict depth whole start _ _ before _ c.args.header c.level-level.result c.args.place
+  draws = λ allowed depth whole start before due p taken at all. record {
+    lines = walk_line allowed depth whole start _ _ before _ c.args.header c.level-level.result c.args.place
         c.within-within.result
         c.args.walk.now
         due p
@@ -36,42 +36,42 @@ returns-in-Deep g c = record {
         (nest_place depth c.args.header due.nests before _ c.requires.nest) c.level-level.ensures.value c.within-within.ensures at
         (c.in_ok-shown.ensures.draws tt);
     due = tt;
-    stops = (c.in-Deep.ensures strict depth whole before _ due p taken, c.requires.nest, refl);
+    stops = (c.in-Deep.ensures allowed depth whole before _ due p taken, c.requires.nest, refl);
   };
-  refused = λ strict depth whole start before due p at never. absurd never;
+  refused = λ allowed depth whole start before due p at never. absurd never;
   alone = tt;
 }
 
 pub returns-in-Within : goal.returns-in-Within
 returns-in-Within g c = record {
-  draws = λ strict depth whole start before due p taken at all. record {
-    lines = walk_line strict depth whole start _ _ before _ c.args.header c.level-level.result c.args.place
+  draws = λ allowed depth whole start before due p taken at all. record {
+    lines = walk_line allowed depth whole start _ _ before _ c.args.header c.level-level.result c.args.place
         c.within-within.result
         c.args.walk.now
         due p
         (nest_level c.args.header due.nests 0 c.requires.nest)
         (nest_place depth c.args.header due.nests before _ c.requires.nest) c.level-level.ensures.value c.within-within.ensures at
         (c.in_ok-shown.ensures.draws tt);
-    due = c.in-Within.ensures strict depth whole before _ due p taken;
+    due = c.in-Within.ensures allowed depth whole before _ due p taken;
     stops = tt;
   };
-  refused = λ strict depth whole start before due p at never. absurd never;
+  refused = λ allowed depth whole start before due p at never. absurd never;
   alone = tt;
 }
 
 pub returns-in-Empty : goal.returns-in-Empty
 returns-in-Empty g c = record {
-  draws = λ strict depth whole start before due p taken at all. record {
-    lines = walk_line strict depth whole start _ _ before _ c.args.header c.level-level.result c.args.place
+  draws = λ allowed depth whole start before due p taken at all. record {
+    lines = walk_line allowed depth whole start _ _ before _ c.args.header c.level-level.result c.args.place
         c.within-within.result
         c.args.walk.now
         due p
         (nest_level c.args.header due.nests 0 c.requires.nest)
         (nest_place depth c.args.header due.nests before _ c.requires.nest) c.level-level.ensures.value c.within-within.ensures at
         (c.in_ok-shown.ensures.draws tt);
-    due = c.item_done.ensures strict depth whole _ (c.in-Empty.ensures strict depth whole before _ due p taken);
+    due = c.item_done.ensures allowed depth whole _ (c.in-Empty.ensures allowed depth whole before _ due p taken);
     stops = tt;
   };
-  refused = λ strict depth whole start before due p at never. absurd never;
+  refused = λ allowed depth whole start before due p at never. absurd never;
   alone = tt;
 }

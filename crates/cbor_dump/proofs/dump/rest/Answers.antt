@@ -1,5 +1,4 @@
 use Rattle.std.proofs.Common.{arith, ◌-◌, ◌≡◌, ◌∙◌, ap, Some, None}
-use Rattle.ciborium_ll.specs.Spellings.{is_shortest}
 use Rattle.ciborium_ll.specs.Title.{title_len}
 use Rattle.ciborium_ll.specs.Strings.{kind_header}
 use Rattle.cbor_dump.specs.StringRows.{kind_of}
@@ -12,7 +11,7 @@ returns-in-Some g c = record {
   shows = λ depth start nests items title stands p level at all.
       let titled = rw c.in-Some.is at p in
       let shows = (rw c.offset.ensures.same at c.body.ensures.shows) depth start 0 nests items title
-      (is_shortest c.args.spelling)
+      c.args.spelling
       (due_here depth nests items stands) titled (omega (arith, level)) at all in
       let named = c.title_len.ensures.value ∙ ap title_len c.header.ensures in
       let here = c.offset.ensures.value in

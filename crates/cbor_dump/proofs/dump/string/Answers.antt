@@ -1,5 +1,4 @@
 use Rattle.std.proofs.Common.{arith, length-append, ◌∙◌, refl}
-use Rattle.ciborium_ll.specs.Spellings.{is_shortest}
 use Rattle.ciborium_ll.proofs.DecodingLaws.{exit_is}
 use Rattle.cbor_dump.specs.Takings.{taken_bytes}
 use Rattle.cbor_dump.specs.StringRows.{kind_of}
@@ -26,7 +25,7 @@ returns-in_err-shown g c =
           let but = c.in_err-shown.ensures.refused c.in_err-shown.ensures.refusal in
           behind_refused g.R.Read depth start _ _ before row _ (record {
             row = but.row;
-            lines = walk_line (is_shortest c.args.spelling) depth whole start _ _ before row (kind_header k c.args.len)
+            lines = walk_line c.args.spelling depth whole start _ _ before row (kind_header k c.args.len)
                 c.level-level.result c.args.place c.within-within.result c.args.walk.now due p
                 (string_level k c.args.len due.nests 0) (string_place depth k c.args.len due.nests before _)
                 c.level-level.ensures.value c.within-within.ensures place (rw c.header-header.ensures at but.draws);
@@ -49,12 +48,12 @@ returns-in_err-rest g c =
           let k = kind_of c.args.kind in
           let drawn = rw c.header-header.ensures at (c.in_ok-shown.ensures.draws tt) in
           let used = due.keeps.used in
-          let line = walk_line (is_shortest c.args.spelling) depth whole start _ _ before row
+          let line = walk_line c.args.spelling depth whole start _ _ before row
           (kind_header k c.args.len) c.level-level.result c.args.place c.within-within.result
           c.args.walk.now due p (string_level k c.args.len due.nests 0) (string_place depth k c.args.len due.nests before _)
           c.level-level.ensures.value c.within-within.ensures place drawn in
           let shown = c.in_err-rest.ensures.shows depth start due.nests before row
-          (whole, stands_any (is_shortest c.args.spelling) depth whole due.nests before due.within) p
+          (whole, stands_any c.args.spelling depth whole due.nests before due.within) p
           (c.level-level.ensures.value ∙ used) (omega (arith, place, offset, length-append before row)) all in
           let rest = shown.behind in
           record {
@@ -62,7 +61,7 @@ returns-in_err-rest g c =
             shows = title_then g.R.Read depth start _ _ _ before row rest.bytes _ _ line rest.shows;
             due = tt;
             passed = λ alike. tt;
-            stops = λ alike. rest_stops g.R.Read (is_shortest c.args.spelling) depth whole k c.args.len c.args.place
+            stops = λ alike. rest_stops g.R.Read c.args.spelling depth whole k c.args.len c.args.place
                 before _ _
                 error (record { nests = due.nests; within = due.within; is = refl }) (rest.stops alike);
           };
@@ -70,13 +69,13 @@ returns-in_err-rest g c =
           let row = taken_bytes c.args.taken.now in
           let k = kind_of c.args.kind in
           let used = due.keeps.used in
-          let line = walk_line (is_shortest c.args.spelling) depth whole start _ _ before row
+          let line = walk_line c.args.spelling depth whole start _ _ before row
           (kind_header k c.args.len) c.level-level.result c.args.place c.within-within.result
           c.args.walk.now due p (string_level k c.args.len due.nests 0) (string_place depth k c.args.len due.nests before _)
           c.level-level.ensures.value c.within-within.ensures place
           (rw c.header-header.ensures at (c.in_ok-shown.ensures.draws tt)) in
           let rest = c.in_err-rest.ensures.refused depth start due.nests before row
-          (whole, stands_any (is_shortest c.args.spelling) depth whole due.nests before due.within) p
+          (whole, stands_any c.args.spelling depth whole due.nests before due.within) p
           (c.level-level.ensures.value ∙ used) (omega (arith, place, offset, length-append before row)) all in
           record {
             row = rest.row;
@@ -94,22 +93,22 @@ returns g c = record {
       let k = kind_of c.args.kind in
       let drawn = rw c.header-header.ensures at (c.in_ok-shown.ensures.draws tt) in
       let used = due.keeps.used in
-      let line = walk_line (is_shortest c.args.spelling) depth whole start _ _ before row
+      let line = walk_line c.args.spelling depth whole start _ _ before row
       (kind_header k c.args.len) c.level-level.result c.args.place c.within-within.result
       c.args.walk.now due p (string_level k c.args.len due.nests 0) (string_place depth k c.args.len due.nests before _)
       c.level-level.ensures.value c.within-within.ensures place drawn in
       let shown = c.in_ok-rest.ensures.shows depth start due.nests before row
-      (whole, stands_any (is_shortest c.args.spelling) depth whole due.nests before due.within) p
+      (whole, stands_any c.args.spelling depth whole due.nests before due.within) p
       (c.level-level.ensures.value ∙ used) (omega (arith, place, offset, length-append before row)) tt in
       let rest = shown.behind in
       record {
         bytes = rest.bytes;
         shows = title_then g.R.Read depth start _ _ _ before row rest.bytes _ _ line rest.shows;
-        due = c.item_done.ensures (is_shortest c.args.spelling) depth whole _
-            (behind_item (is_shortest c.args.spelling) depth whole c.args.walk.now (kind_header k c.args.len) _ before
+        due = c.item_done.ensures c.args.spelling depth whole _
+            (behind_item c.args.spelling depth whole c.args.walk.now (kind_header k c.args.len) _ before
             row rest.bytes
             due (omega arith) p (c.key_string.ensures rest.bytes shown.keeps)
-            (string_item (is_shortest c.args.spelling) k c.args.len row rest.bytes p taken rest.whole));
+            (string_item c.args.spelling k c.args.len row rest.bytes p taken rest.whole));
         passed = rest.passed;
         stops = λ alike. tt;
       };

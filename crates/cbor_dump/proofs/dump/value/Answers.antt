@@ -11,13 +11,13 @@ returns-in_err-shown g c =
     let error = c.in_err-shown.field-0.0 in
     let same = exit_is c.from_residual.result error c.from_residual.ensures.1 in
     rw same (record {
-      draws = λ strict depth whole start before due p taken at all.
+      draws = λ allowed depth whole start before due p taken at all.
           absurd (not_taken error c.in_err-shown.ensures.refusal all);
-      refused = λ strict depth whole start before due p at all.
+      refused = λ allowed depth whole start before due p at all.
           let but = c.in_err-shown.ensures.refused c.in_err-shown.ensures.refusal in
           record {
             row = but.row;
-            lines = walk_line strict depth whole start _ _ before _ c.args.header c.level-level.result c.args.place
+            lines = walk_line allowed depth whole start _ _ before _ c.args.header c.level-level.result c.args.place
                 c.within-within.result
                 c.args.walk.now due p (value_level c.args.header due.nests 0 c.requires.value)
                 (value_place depth c.args.header due.nests before _ c.requires.value)
@@ -28,18 +28,19 @@ returns-in_err-shown g c =
 
 pub returns : goal.returns
 returns g c = record {
-  draws = λ strict depth whole start before due p taken at all. record {
-    lines = walk_line strict depth whole start _ _ before _ c.args.header c.level-level.result c.args.place
+  draws = λ allowed depth whole start before due p taken at all. record {
+    lines = walk_line allowed depth whole start _ _ before _ c.args.header c.level-level.result c.args.place
         c.within-within.result
         c.args.walk.now
         due p
         (value_level c.args.header due.nests 0 c.requires.value)
         (value_place depth c.args.header due.nests before _ c.requires.value) c.level-level.ensures.value c.within-within.ensures at
         (c.in_ok-shown.ensures.draws tt);
-    due = c.item_done.ensures strict depth whole _ (behind_alone strict depth whole c.args.walk.now
-        c.args.header _ before (taken_bytes c.args.taken.now) due (omega arith) p c.key_alone.ensures (value_item strict c.args.header (taken_bytes c.args.taken.now) c.requires.value p taken));
+    due = c.item_done.ensures allowed depth whole _ (behind_alone allowed depth whole c.args.walk.now
+        c.args.header _ before (taken_bytes c.args.taken.now) due (omega arith) p c.key_alone.ensures
+        (value_item allowed c.args.header (taken_bytes c.args.taken.now) c.requires.value p taken));
     stops = tt;
   };
-  refused = λ strict depth whole start before due p at never. absurd never;
+  refused = λ allowed depth whole start before due p at never. absurd never;
   alone = tt;
 }

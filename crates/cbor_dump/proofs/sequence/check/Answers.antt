@@ -1,6 +1,6 @@
 use Rattle.std.proofs.Common.{length, Err, arith, add-one}
 use Rattle.ciborium_ll.proofs.DecodingLaws.{MovesOn-none, MovesOn-then}
-use Rattle.cbor_skip.specs.Skipping.{ReadsItem, SkipsItem, strictness}
+use Rattle.cbor_skip.specs.Skipping.{ReadsItem, SkipsItem, allowed_by}
 use Rattle.cbor_dump.proofs.ItemRows.{items_counted}
 use Rattle.cbor_dump.proofs.SequenceLaws.{check_exactly, check_failures, check_number, check_told, ends, none_read}
 use Rattle.cbor_dump.proofs.SequenceLaws.{one_more}
@@ -18,16 +18,16 @@ pub overflow_add-items : goal.overflow_add-items
 overflow_add-items g c =
     let item : ReadsItem g.R.Read c.args.depth c.items.decoder c.skip_item.new.decoder =
     rw c.offset-place.ensures.same at c.in-Ok.ensures.skipped.skipped in
-    let some = items_counted (strictness c.items.decoder) c.args.depth 1 item.item item.is_item in
+    let some = items_counted (allowed_by c.items.decoder) c.args.depth 1 item.item item.is_item in
     let reads = c.items.invariant.reads in
-    let all = items_counted (strictness c.args.decoder.now) c.args.depth c.items.items reads.bytes reads.are_items in
+    let all = items_counted (allowed_by c.args.decoder.now) c.args.depth c.items.items reads.bytes reads.are_items in
     omega (arith, some, all, item.passed.offset, reads.passed.offset)
 
 pub items-smaller : goal.items-smaller
 items-smaller g c =
     let item : ReadsItem g.R.Read c.args.depth c.items.decoder c.skip_item.new.decoder =
     rw c.offset-place.ensures.same at c.in-Ok.ensures.skipped.skipped in
-    let some = items_counted (strictness c.items.decoder) c.args.depth 1 item.item item.is_item in
+    let some = items_counted (allowed_by c.items.decoder) c.args.depth 1 item.item item.is_item in
     omega (arith, some, item.passed.offset)
 
 pub items-preserved : goal.items-preserved

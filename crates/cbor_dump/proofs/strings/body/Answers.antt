@@ -1,4 +1,5 @@
-use Rattle.std.proofs.Common.{◌≡◌, ◌+◌, ◌≤◌, ℕ, List, [], ◌++◌, length, false, arith, subst, sym, ◌∙◌}
+use Rattle.std.proofs.Common.{◌≡◌, ◌+◌, ◌≤◌, ℕ, List, [], ◌++◌, length, arith, subst, sym, ◌∙◌}
+use Rattle.ciborium_ll_grammar.specs.declared.spelling.Spelling.TheVariants.{Any}
 use Rattle.cbor_dump.specs.Keys.{body_bytes, most_key}
 use Rattle.cbor_dump.specs.Takings.{taken_bytes}
 use Rattle.cbor_dump.specs.StringRows.{kind_of}
@@ -32,7 +33,7 @@ rows-init g c = record {
 
 pub returns-in-Err : goal.returns-in-Err
 returns-in-Err g c = record {
-  shows = λ depth start opens nests outer title strict due p level at all.
+  shows = λ depth start opens nests outer title allowed due p level at all.
       let so_far = (c.rows.invariant.so_far depth start opens nests outer title due p level at).shown in
       let row = taken_bytes c.read_part.new.taken in
       let keeps = rw c.offset-offset.ensures.same at c.read_part.ensures.keeps in
@@ -40,9 +41,9 @@ returns-in-Err g c = record {
       record {
         behind = record {
           bytes = so_far.front ++ row;
-          shows = shows_says g.R.Read strict c.in-Err.error c.fault.result depth start _ _ (outer ++ title)
+          shows = shows_says g.R.Read allowed c.in-Err.error c.fault.result depth start _ _ (outer ++ title)
               (so_far.front ++ row) _ _ c.fault.ensures.says all
-              (part_fails g.R.Read strict c.in-Err.error depth start opens nests outer title (kind_of c.args.kind)
+              (part_fails g.R.Read allowed c.in-Err.error depth start opens nests outer title (kind_of c.args.kind)
               c.args.len c.rows.left c.args.level c.offset-offset.result _ _ _ row _ _ _
               (record { due = due; is_title = p; below = level }) at so_far takes c.read_part.ensures.most
               c.offset-offset.ensures.value (c.fault.ensures.draws all)
@@ -76,9 +77,9 @@ returns-in-Err g c = record {
       let but = c.fault.ensures.refused all in
       record {
         row = but.row;
-        how = ending_of false c.in-Err.error;
+        how = ending_of Any c.in-Err.error;
         bytes = so_far.front ++ row;
-        shows = part_fails g.R.Read false c.in-Err.error depth start opens nests outer title (kind_of c.args.kind)
+        shows = part_fails g.R.Read Any c.in-Err.error depth start opens nests outer title (kind_of c.args.kind)
             c.args.len c.rows.left c.args.level c.offset-offset.result _ _ _ row _ _ _
             (record { due = due; is_title = p; below = level }) at so_far takes c.read_part.ensures.most
             c.offset-offset.ensures.value but.draws
@@ -96,7 +97,7 @@ returns-in_err-shown g c =
     let error = c.in_err-shown.field-0.0 in
     let same = exit_is c.from_residual.result error c.from_residual.ensures.1 in
     rw same (record {
-      shows = λ depth start opens nests outer title strict due p level at all.
+      shows = λ depth start opens nests outer title allowed due p level at all.
           absurd (not_taken error c.in_err-shown.ensures.refusal all);
       rises =
           let keeps = rw c.offset-offset.ensures.same at c.read_part.ensures.keeps in
@@ -159,7 +160,7 @@ rows-preserved g c = record {
 
 pub returns : goal.returns
 returns g c = record {
-  shows = λ depth start opens nests outer title strict due p level at all.
+  shows = λ depth start opens nests outer title allowed due p level at all.
       let up = c.rows.invariant.so_far depth start opens nests outer title due p level at in
       let so_far = up.shown in
       let counted = so_far.counted in

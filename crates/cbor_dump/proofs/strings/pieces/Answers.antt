@@ -1,6 +1,5 @@
 use Rattle.std.proofs.Common.{◌≡◌, ℕ, ◌+◌, ◌++◌, ap, subst, sym, suc, ◌∙◌, refl, inr, le_refl, arith}
-use Rattle.ciborium_ll.specs.Spellings.{is_shortest}
-use Rattle.ciborium_ll.specs.Decoding.{PullsTitle, strict_of}
+use Rattle.ciborium_ll.specs.Decoding.{PullsTitle, spelling_of}
 use Rattle.ciborium_ll.proofs.DecodingLaws.{exit_is, IfSome-all, ReadsPast-then}
 use Rattle.ciborium_ll.specs.Types.Header.{Header}
 use Rattle.ciborium_ll.specs.Types.Error.TheVariants.{Syntax}
@@ -26,7 +25,7 @@ use Rattle.cbor_dump.proofs.strings.pieces.Goals as goal
 pub parts-init : goal.parts-init
 parts-init g c = record {
   within = λ depth start nests items title stands p level at.
-      within_first g.R.Read (is_shortest c.args.spelling) depth start _ nests items title (kind_of c.args.kind) _ _ p
+      within_first g.R.Read c.args.spelling depth start _ nests items title (kind_of c.args.kind) _ _ p
       (omega
       (arith, level));
   moves = reads_on g.R.Read c.args.decoder.now;
@@ -46,9 +45,9 @@ returns-in-Err g c = record {
         bytes = so_far.bytes ++ row;
         shows = within_fails g.R.Read stands so_far at c.in-Err.error c.fault.result _ row c.offset-place.result _ c.fault.ensures.says all takes place
             (c.fault.ensures.draws all)
-            (title_row (is_shortest c.args.spelling) (kind_of c.args.kind) (suc so_far.opens) c.in-Err.error row
+            (title_row c.args.spelling (kind_of c.args.kind) (suc so_far.opens) c.in-Err.error row
             (rw c.in-Err.is at c.read_title.ensures.row)) (row_few c.read_title.new.self)
-            (title_fault (is_shortest c.args.spelling) c.in-Err.error row (rw c.in-Err.is at c.read_title.ensures.row))
+            (title_fault c.args.spelling c.in-Err.error row (rw c.in-Err.is at c.read_title.ensures.row))
             (rw (c.offset-place.ensures.same, c.in-Err.is) at c.read_title.ensures.left);
         whole = tt;
         passed = λ alike. tt;
@@ -66,13 +65,13 @@ returns-in-Err g c = record {
       let but = c.fault.ensures.refused all in
       record {
         row = but.row;
-        how = ending_of (is_shortest c.args.spelling) c.in-Err.error;
+        how = ending_of c.args.spelling c.in-Err.error;
         bytes = so_far.bytes ++ row;
         shows = within_fault g.R.Read stands so_far at c.in-Err.error _ row c.offset-place.result _ takes
             c.offset-place.ensures.value but.draws
-            (title_row (is_shortest c.args.spelling) (kind_of c.args.kind) (suc so_far.opens) c.in-Err.error row
+            (title_row c.args.spelling (kind_of c.args.kind) (suc so_far.opens) c.in-Err.error row
             (rw c.in-Err.is at c.read_title.ensures.row)) (row_few c.read_title.new.self)
-            (title_fault (is_shortest c.args.spelling) c.in-Err.error row (rw c.in-Err.is at c.read_title.ensures.row))
+            (title_fault c.args.spelling c.in-Err.error row (rw c.in-Err.is at c.read_title.ensures.row))
             (rw (c.offset-place.ensures.same, c.in-Err.is) at c.read_title.ensures.left);
       };
   moves = says_stops g.R.Read c.in-Err.error c.fault.result _ _ c.fault.ensures.says
@@ -111,7 +110,7 @@ returns-in-Other g c = record {
       let but = c.fault-in-Other.ensures.refused all in
       record {
         row = but.row;
-        how = Refused (is_shortest c.args.spelling);
+        how = Refused c.args.spelling;
         bytes = so_far.bytes ++ row;
         shows = within_fault g.R.Read stands so_far at (Syntax c.offset-place.result) _ row c.offset-place.result _
             takes c.offset-place.ensures.value but.draws
@@ -168,7 +167,7 @@ returns-in_err-body-in-Piece g c =
           let inner = so_far.level in
           let due = piece_due g.R.Read stands so_far at in
           let rest = (c.in_err-body-in-Piece.ensures.shows depth start (suc so_far.opens) nests (items ++ so_far.parts) row
-          (is_shortest c.args.spelling) due
+          c.args.spelling due
           title_row (ap (λ (n : ℕ). n + 1) inner) (piece_offset g.R.Read stands so_far at row _ takes) all).behind in
           let first = within_title g.R.Read stands so_far at
           _ row c.in-Ok.header c.offset-place.result c.title_level-at.result _ takes place titled
@@ -185,7 +184,7 @@ returns-in_err-body-in-Piece g c =
                 let pulled = subst (λ (x : Header). PullsTitle g.R.Read c.parts.decoder x c.read_title.new.decoder) is
                 pulls.0 in
                 within_body g.R.Read stands so_far at p c.in-Piece.len _ _ _ pulled pulls.1 error
-                (rest.stops (passes_alike g.R.Read (is_shortest c.args.spelling) _ _ row went here)) place alike;
+                (rest.stops (passes_alike g.R.Read c.args.spelling _ _ row went here)) place alike;
           };
       refused = λ depth start nests items title stands p level at all.
           let so_far = c.parts.invariant.within depth start nests items title stands p level at in
@@ -222,13 +221,14 @@ parts-preserved-in-Continue-branch-2 g c = record {
       let titled : IsTitle row c.in-Ok.header = c.in-Ok.ensures.title in
       let is = c.in-Piece.ensures in
       let title_row = subst (λ (x : Header). IsTitle row x) is titled in
-      let taken : IsTakenTitle (is_shortest c.args.spelling) row c.in-Ok.header = c.in-Ok.ensures.taken in
-      let taken_row = subst (λ (x : Header). IsTakenTitle (is_shortest c.args.spelling) row x) is taken in
+      let taken : IsTakenTitle c.args.spelling row c.in-Ok.header = c.in-Ok.ensures.taken in
+      let taken_row = subst (λ (x : Header). IsTakenTitle c.args.spelling row x) is taken in
       let inner = so_far.level in
       let due = piece_due g.R.Read stands so_far at in
       let rest = (c.in_ok-body-in-Piece.ensures.shows depth start (suc so_far.opens) nests
-      (items ++ so_far.parts) row (strict_of c.read_title.new.decoder) due title_row (ap (λ (n : ℕ). n + 1) inner)
-      (piece_offset g.R.Read stands so_far at row _ takes) tt).behind in
+      (items ++ so_far.parts) row (spelling_of c.read_title.new.decoder) due title_row (ap (λ (n : ℕ). n + 1) inner)
+      (piece_offset
+      g.R.Read stands so_far at row _ takes) tt).behind in
       let went = rw c.offset-place.ensures.same at c.in-Ok.ensures.passes in
       let first = within_title g.R.Read stands so_far at
       _ row c.in-Ok.header c.offset-place.result c.title_level-at.result _ takes place titled
@@ -290,7 +290,7 @@ returns-then-at-level g c = record {
       (rw c.offset-place.ensures.same at c.read_title.ensures.keeps) in
       let place = c.offset-place.ensures.value in
       let titled : IsTitle row c.in-Ok.header = c.in-Ok.ensures.title in
-      let is = only_break (is_shortest c.args.spelling) (kind_of c.args.kind) c.in-Ok.header c.part_of-part.result
+      let is = only_break c.args.spelling (kind_of c.args.kind) c.in-Ok.header c.part_of-part.result
       c.part_of-part.ensures c.in_default-part.not-Piece c.in_default-part.not-Open c.in_default.not-Other in
       let title_row = subst (λ (x : Header). IsTitle row x) is titled in
       let higher = c.title_level-at.ensures nests so_far.opens so_far.level in
@@ -320,7 +320,7 @@ parts-preserved g c = record {
       (rw c.offset-place.ensures.same at c.read_title.ensures.keeps) in
       let place = c.offset-place.ensures.value in
       let titled : IsTitle row c.in-Ok.header = c.in-Ok.ensures.title in
-      let is = only_break (is_shortest c.args.spelling) (kind_of c.args.kind) c.in-Ok.header c.part_of-part.result
+      let is = only_break c.args.spelling (kind_of c.args.kind) c.in-Ok.header c.part_of-part.result
       c.part_of-part.ensures c.in_default-part.not-Piece c.in_default-part.not-Open c.in_default.not-Other in
       let title_row = subst (λ (x : Header). IsTitle row x) is titled in
       let higher = c.title_level-at.ensures nests so_far.opens so_far.level in
@@ -334,7 +334,7 @@ parts-preserved g c = record {
   moves = reads_then g.R.Read _ _ _ c.parts.invariant.moves
       (rw c.offset-place.ensures.same at c.in-Ok.ensures.moves);
   above =
-      let is = only_break (is_shortest c.args.spelling) (kind_of c.args.kind) c.in-Ok.header c.part_of-part.result
+      let is = only_break c.args.spelling (kind_of c.args.kind) c.in-Ok.header c.part_of-part.result
       c.part_of-part.ensures c.in_default-part.not-Piece c.in_default-part.not-Open c.in_default.not-Other in
       let inner = c.parts.invariant.above in
       let at = break_level c.in-Ok.header c.parts.inner c.title_level-at.result is (omega (arith, inner))
@@ -346,7 +346,7 @@ parts-preserved g c = record {
       let takes = taken_all g.R.Read _ row _ _ c.new-taken.ensures
       (rw c.offset-place.ensures.same at c.read_title.ensures.keeps) in
       let moved = takes.offset in
-      let is = only_break (is_shortest c.args.spelling) (kind_of c.args.kind) c.in-Ok.header c.part_of-part.result
+      let is = only_break c.args.spelling (kind_of c.args.kind) c.in-Ok.header c.part_of-part.result
       c.part_of-part.ensures c.in_default-part.not-Piece c.in_default-part.not-Open c.in_default.not-Other in
       let above = c.parts.invariant.above in
       let inner = c.parts.invariant.below in

@@ -1,5 +1,4 @@
 use Rattle.std.proofs.Common.{◌≡◌, ℕ, ◌+◌, ◌-◌, ◌^◌, ◌<◌, ◌≤◌, List, ◌++◌, length, None}
-use Rattle.ciborium_ll.specs.Spellings.{is_shortest}
 use Rattle.ciborium_ll.specs.Title.{IsTitle}
 use Rattle.ciborium_ll.specs.Strings.{kind_header}
 use Rattle.cbor_dump.specs.Levels.{Nest, StandsWithin}
@@ -13,7 +12,7 @@ invariant-parts g l = record {
   within : (depth start : ℕ) (nests : List Nest) (items title : List ℕ) → StandsWithin depth nests items
       → IsTitle title (kind_header (kind_of l.kind) None) → l.level ≡ length nests
       → l.fn.decoder.offset ≡ start + length (items ++ title)
-      → Within g.R.Read (is_shortest l.spelling) depth start (g.S.Rows.drawn l.fn.rows) (g.S.Rows.drawn l.rows) nests
+      → Within g.R.Read l.spelling depth start (g.S.Rows.drawn l.fn.rows) (g.S.Rows.drawn l.rows) nests
       items title
       (kind_of l.kind) l.inner l.fn.decoder l.decoder;
   moves : ReadsOn g.R.Read l.fn.decoder l.decoder;

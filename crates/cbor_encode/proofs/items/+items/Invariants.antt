@@ -1,5 +1,4 @@
 use Rattle.std.proofs.Common.{◌≤◌, ◌+◌, ◌*◌}
-use Rattle.ciborium_ll_grammar.specs.Spellings.{is_shortest}
 use Rattle.ciborium_ll_grammar.specs.Items.{AreItems}
 use Rattle.cbor_encode.specs.Left.{left_of}
 use Rattle.cbor_encode.proofs.items.+items.Given as goal
@@ -33,7 +32,7 @@ abbrev pub invariant-read_items-items : goal.invariant-read_items-items
 invariant-read_items-items l = record {
   within : left_of l.cursor ≤ left_of l.fn.cursor;
   count : l.count + left_of l.cursor ≤ left_of l.fn.cursor;
-  items : AreItems (is_shortest l.rules.spelling) l.depth l.count l.bytes.items;
+  items : AreItems l.rules.spelling l.depth l.count l.bytes.items;
 }
 
 abbrev pub decreases-read_items-items : goal.decreases-read_items-items
@@ -43,7 +42,7 @@ abbrev pub invariant-read_pairs-pairs : goal.invariant-read_pairs-pairs
 invariant-read_pairs-pairs l = record {
   within : left_of l.cursor ≤ left_of l.fn.cursor;
   count : l.count + left_of l.cursor ≤ left_of l.fn.cursor;
-  pairs : AreItems (is_shortest l.rules.spelling) l.depth (2 * l.count) l.bytes.items;
+  pairs : AreItems l.rules.spelling l.depth (2 * l.count) l.bytes.items;
 }
 
 abbrev pub decreases-read_pairs-pairs : goal.decreases-read_pairs-pairs

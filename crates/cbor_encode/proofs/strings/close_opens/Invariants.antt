@@ -1,5 +1,4 @@
 use Rattle.std.proofs.Common.{◌≤◌}
-use Rattle.ciborium_ll_grammar.specs.Spellings.{is_shortest}
 use Rattle.cbor_encode.specs.Left.{left_of}
 use Rattle.cbor_encode.specs.Chunks.{AreWithin}
 use Rattle.cbor_encode.specs.Scalars.{kind_of}
@@ -9,7 +8,7 @@ abbrev pub invariant-ends : goal.invariant-ends
 invariant-ends l = record {
   within : left_of l.cursor ≤ left_of l.fn.cursor;
   fewer : l.opens ≤ l.fn.opens;
-  chunks : AreWithin (is_shortest l.fn.spelling) (kind_of l.is_text) l.opens l.strings.items;
+  chunks : AreWithin l.fn.spelling (kind_of l.is_text) l.opens l.strings.items;
 }
 
 abbrev pub decreases-ends : goal.decreases-ends

@@ -1,5 +1,4 @@
 use Rattle.std.proofs.Common.{◌<◌, ◌≤◌, ◌+◌}
-use Rattle.ciborium_ll_grammar.specs.Spellings.{is_shortest}
 use Rattle.cbor_encode.specs.Left.{left_of}
 use Rattle.cbor_encode.specs.Chunks.{AreWithin}
 use Rattle.cbor_encode.specs.Scalars.{kind_of}
@@ -10,7 +9,7 @@ invariant-opens l = record {
   within : left_of l.cursor ≤ left_of l.fn.cursor;
   some : 0 < l.opens;
   counted : l.opens + left_of l.cursor ≤ l.fn.opens + left_of l.fn.cursor;
-  chunks : AreWithin (is_shortest l.spelling) (kind_of l.is_text) l.opens l.strings.items;
+  chunks : AreWithin l.spelling (kind_of l.is_text) l.opens l.strings.items;
 }
 
 abbrev pub decreases-opens : goal.decreases-opens

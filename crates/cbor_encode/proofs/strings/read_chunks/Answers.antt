@@ -1,5 +1,4 @@
 use Rattle.std.proofs.Common.{arith}
-use Rattle.ciborium_ll_grammar.specs.Spellings.{is_shortest}
 use Rattle.cbor_encode.proofs.StringLaws.{chunks_begin}
 use Rattle.cbor_encode.specs.Scalars.{kind_of}
 use Rattle.cbor_encode.proofs.strings.read_chunks.Goals as goal
@@ -8,5 +7,5 @@ pub chunks-init : goal.chunks-init
 chunks-init c = record {
   within = omega arith;
   counted = omega arith;
-  chunks = rw c.new-strings.ensures.items (chunks_begin (is_shortest c.args.spelling) (kind_of c.args.is_text));
+  chunks = rw c.new-strings.ensures.items (chunks_begin c.args.spelling (kind_of c.args.is_text));
 }

@@ -2,20 +2,20 @@ use Rattle.std.proofs.Common.{◌≡◌, ◌-◌, ◌^◌, ℕ, Option, None}
 use Rattle.ciborium_ll.specs.Types.Decoder.{Decoder}
 use Rattle.ciborium_ll.specs.Title.{IsInRange}
 use Rattle.ciborium_ll.specs.Strings.{kind_header}
-use Rattle.ciborium_ll.specs.Decoding.{MovesOn, TakesBack, waiting_of, strict_of}
+use Rattle.ciborium_ll.specs.Decoding.{MovesOn, TakesBack, waiting_of, spelling_of}
 use Rattle.ciborium_ll.proofs.SkipLaws.{SkipsSoFar}
-use Rattle.ciborium_ll.specs.Segments.{string_strict}
+use Rattle.ciborium_ll.specs.Segments.{string_spelling}
 use Rattle.cbor_json.proofs.ContentLaws.{CopiedFar}
 use Rattle.cbor_json.proofs.strings.copy_bodies.Given as goal
 
 abbrev pub invariant-segments : goal.invariant-segments
 invariant-segments g l = record {
   same : l.segments.decoder.ghost_name ≡ l.initial.segments.decoder.ghost_name;
-  mode : string_strict l.segments ≡ string_strict l.initial.segments;
+  mode : string_spelling l.segments ≡ string_spelling l.initial.segments;
   so_far : (opened : Decoder g.row.R.Denot) (len : Option ℕ) → IsInRange (kind_header g.P.Parser.kind len)
       → waiting_of opened ≡ None
       → TakesBack g.R.Read opened (kind_header g.P.Parser.kind len) l.initial.segments.decoder.now
-      → string_strict l.initial.segments ≡ strict_of opened
+      → string_spelling l.initial.segments ≡ spelling_of opened
       → SkipsSoFar g.R.Read g.P.Parser.kind len opened l.segments.progress
       l.segments.decoder.now;
   copied : (opened : Decoder g.row.R.Denot) (len : Option ℕ) → IsInRange (kind_header g.P.Parser.kind len)

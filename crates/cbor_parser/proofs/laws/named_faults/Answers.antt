@@ -4,5 +4,5 @@ use Rattle.cbor_parser.proofs.ElementTokens.{named}
 use Rattle.cbor_parser.proofs.laws.named_faults.Goals as goal
 
 pub returns : goal.returns
-returns c = λ strict bytes tokens place parser is at.
-    named strict bytes tokens place (subst (λ (q : Point). IsParsed strict bytes tokens q) at is.parsed)
+returns c = λ allowed bytes tokens place parser is at.
+    named allowed bytes tokens place (subst (λ (q : Point). IsParsed allowed bytes tokens q) at is.parsed)

@@ -1,5 +1,5 @@
 use Rattle.std.proofs.Common.{refl, arith}
-use Rattle.ciborium_ll_decoder.specs.Decoding.{strict_of}
+use Rattle.ciborium_ll_decoder.specs.Decoding.{spelling_of}
 use Rattle.cbor_view.proofs.ParseLaws.{ready, told_of_bytes, told_fault}
 use Rattle.cbor_view.proofs.parse.split_item.Goals as goal
 
@@ -7,7 +7,7 @@ pub fault_of-requires : goal.fault_of-requires
 fault_of-requires c =
     let due = c.args.bytes.now in
     let old = c.from-decoder.result in
-    told_of_bytes _ (strict_of old) c.args.depth due old c.skip_item.new.decoder c.in-Err.error
+    told_of_bytes _ (spelling_of old) c.args.depth due old c.skip_item.new.decoder c.in-Err.error
     c.from-decoder.ensures.mode
     (c.in-Err.ensures.told due
     (ready _ 64 c.new.result old due c.from-decoder.ensures refl c.new.ensures.ahead (omega arith) (omega arith)))
@@ -16,7 +16,7 @@ pub returns-in-Err-clause-fault : goal.returns-in-Err-clause-fault
 returns-in-Err-clause-fault c =
     let due = c.args.bytes.now in
     let old = c.from-decoder.result in
-    told_fault _ (strict_of old) c.args.depth due old c.skip_item.new.decoder c.in-Err.error c.fault_of.result
+    told_fault _ (spelling_of old) c.args.depth due old c.skip_item.new.decoder c.in-Err.error c.fault_of.result
     c.from-decoder.ensures.mode
     (c.in-Err.ensures.told due
     (ready _ 64 c.new.result old due c.from-decoder.ensures refl c.new.ensures.ahead (omega arith) (omega arith)))

@@ -1,4 +1,5 @@
-use Rattle.std.proofs.Common.{ℕ, ◌∙◌, refl, subst, arith, false, List, ◌++◌}
+use Rattle.std.proofs.Common.{ℕ, ◌∙◌, refl, subst, arith, List, ◌++◌}
+use Rattle.ciborium_ll_grammar.specs.declared.spelling.Spelling.TheVariants.{Any}
 use Rattle.ciborium_ll_grammar.specs.Items.{IsItem}
 use Rattle.cbor_view.specs.Pairs.{IsKey}
 use Rattle.cbor_view.proofs.NestLaws.{pair_takes}
@@ -17,8 +18,8 @@ returns-then-is_key c =
       found = c.pairs.invariant.there c.in-Some.value.bytes.now
           (first_here (IsKey c.args.key.now) e c.pairs.left.rest.now c.in-Some.other.bytes.now
           c.in-Some.value.bytes.now c.next.new.self.rest.now
-          (subst (λ (d : ℕ). IsItem false d c.in-Some.other.bytes.now) same took.is_key)
-          (subst (λ (d : ℕ). IsItem false d c.in-Some.value.bytes.now) same took.is_value) took.whole
+          (subst (λ (d : ℕ). IsItem Any d c.in-Some.other.bytes.now) same took.is_key)
+          (subst (λ (d : ℕ). IsItem Any d c.in-Some.value.bytes.now) same took.is_value) took.whole
           (c.is_key.ensures.0 c.if-is_key.true));
       depth = took.value_levels ∙ same;
     }
@@ -28,8 +29,8 @@ pairs-preserved c =
     let took = c.in-Some.ensures.steps in
     let same = c.pairs.invariant.levels in
     let e = c.args.pairs.now.depth in
-    let key = subst (λ (d : ℕ). IsItem false d c.in-Some.other.bytes.now) same took.is_key in
-    let item = subst (λ (d : ℕ). IsItem false d c.in-Some.value.bytes.now) same took.is_value in
+    let key = subst (λ (d : ℕ). IsItem Any d c.in-Some.other.bytes.now) same took.is_key in
+    let item = subst (λ (d : ℕ). IsItem Any d c.in-Some.value.bytes.now) same took.is_value in
     record {
       levels = took.same_levels ∙ same;
       there = λ value f. c.pairs.invariant.there value

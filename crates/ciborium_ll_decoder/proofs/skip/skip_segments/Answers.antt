@@ -1,5 +1,5 @@
 use Rattle.std.proofs.Common.{rules, sym, ◌≡◌, ◌∙◌, ◌<◌, ◌^◌, None, length}
-use Rattle.ciborium_ll_decoder.specs.Segments.{string_strict}
+use Rattle.ciborium_ll_decoder.specs.Segments.{string_spelling}
 use Rattle.ciborium_ll_decoder.proofs.DecodingLaws.{exit_is, nearer, MovesOn-then}
 use Rattle.ciborium_ll_decoder.proofs.SkipLaws.{skips_end, skips_error, skips_body, skips_stop, found_rises}
 use Rattle.ciborium_ll_decoder.proofs.skip.skip_segments.Goals as goal
@@ -10,7 +10,7 @@ returns-in_err-body-clause-skipped g c = λ opened len range settled back meant.
     let same = exit_is c.from_residual.result error c.from_residual.ensures.1 in
     let advances = rw c.in_err-body.was at c.advance.ensures.advances in
     let less : c.advance.new.self.decoder.now.offset < 2 ^ 64 = search rules in
-    rw same (skips_error g.R.Read g.P.Parser.kind (string_strict c.segments.segments) len (length c.args.buffer.now)
+    rw same (skips_error g.R.Read g.P.Parser.kind (string_spelling c.segments.segments) len (length c.args.buffer.now)
     opened c.segments.segments.decoder.now c.advance.new.self.decoder.now c.segments.segments.progress
     c.advance.new.self.progress
     error less (c.segments.invariant.mode ∙ meant)
@@ -20,7 +20,7 @@ pub segments-smaller : goal.segments-smaller
 segments-smaller g c =
     let some = c.in-Some.is in
     let advances = rw (c.in_ok-body.was, some) at c.advance.ensures.advances in
-    let rises = found_rises g.R.Read g.P.Parser.kind (string_strict c.segments.segments) c.segments.segments.progress
+    let rises = found_rises g.R.Read g.P.Parser.kind (string_spelling c.segments.segments) c.segments.segments.progress
     c.advance.new.self.progress
     c.segments.segments.decoder.now c.advance.new.self.decoder.now c.in-Some.body advances in
     nearer c.segments.segments.decoder.now c.advance.new.self.decoder.now c.finish.new.self.decoder.now rises
@@ -35,7 +35,8 @@ segments-preserved g c =
       same = search rules;
       mode = c.finish.ensures.mode ∙ (c.advance.ensures.mode ∙ c.segments.invariant.mode);
       so_far = λ opened len range settled back meant.
-          skips_body g.R.Read g.P.Parser.kind (string_strict c.segments.segments) len (length c.segments.buffer) opened
+          skips_body g.R.Read g.P.Parser.kind (string_spelling c.segments.segments) len (length c.segments.buffer)
+          opened
           c.segments.segments.decoder.now c.advance.new.self.decoder.now c.finish.new.self.decoder.now
           c.segments.segments.progress
           c.finish.new.self.progress c.in-Some.body (c.segments.invariant.mode ∙ meant)
@@ -53,7 +54,7 @@ returns-in_err-finish-clause-skipped g c = λ opened len range settled back mean
     let some = c.in-Some.is in
     let advances = rw (c.in_ok-body.was, some) at c.advance.ensures.advances in
     let stops = rw c.in_err-finish.was at c.finish.ensures.finishes in
-    rw (same, sym c.segments.auto.buffer) (skips_stop g.R.Read g.P.Parser.kind (string_strict c.segments.segments)
+    rw (same, sym c.segments.auto.buffer) (skips_stop g.R.Read g.P.Parser.kind (string_spelling c.segments.segments)
     len (length c.segments.buffer) opened
     c.segments.segments.decoder.now c.advance.new.self.decoder.now c.finish.new.self.decoder.now
     c.segments.segments.progress c.advance.new.self.progress c.in-Some.body error
@@ -64,7 +65,7 @@ pub returns-clause-skipped : goal.returns-clause-skipped
 returns-clause-skipped g c = λ opened len range settled back meant.
     let none : c.in_ok-body.field-0 ≡ None = search rules in
     let advances = rw (c.in_ok-body.was, none) at c.advance.ensures.advances in
-    skips_end g.R.Read g.P.Parser.kind (string_strict c.segments.segments) len (length c.args.buffer.now) opened
+    skips_end g.R.Read g.P.Parser.kind (string_spelling c.segments.segments) len (length c.args.buffer.now) opened
     c.segments.segments.decoder.now
     c.advance.new.self.decoder.now c.segments.segments.progress c.advance.new.self.progress
     (c.segments.invariant.mode ∙ meant)

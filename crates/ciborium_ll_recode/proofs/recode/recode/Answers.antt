@@ -49,13 +49,13 @@ returns-in_err-copy_element g c =
         moves_on = MovesOn-then g.R.Read _ _ _ c.elements.invariant.moves_on c.copy_element.ensures.moves_on;
         target = c.copy_element.ensures.target ∙ c.elements.invariant.target;
       };
-      told = λ strict due written ready. rw same (recode_told _ _ _ _ _ _ _ ready _ (Err error)
+      told = λ allowed due written ready. rw same (recode_told _ _ _ _ _ _ _ ready _ (Err error)
           (stops c.in_err-copy_element.ensures));
-      exactly = λ strict due written alone. rw same (exactly _ _ _ _ old _ _ alone _ (Err error)
+      exactly = λ allowed due written alone. rw same (exactly _ _ _ _ old _ _ alone _ (Err error)
           (stops c.in_err-copy_element.ensures));
-      front = λ strict due written ready. rw same (recode_exactly _ _ _ _ _ _ _ ready _ (Err error)
+      front = λ allowed due written ready. rw same (recode_exactly _ _ _ _ _ _ _ ready _ (Err error)
           (stops c.in_err-copy_element.ensures));
-      anyhow = λ strict due written told. rw same (recode_anyhow _ _ _ room _ _ _ told _ (Err error)
+      anyhow = λ allowed due written told. rw same (recode_anyhow _ _ _ room _ _ _ told _ (Err error)
           (stops c.in_err-copy_element.ensures));
     }
 
@@ -73,8 +73,9 @@ returns g c =
         moves_on = c.elements.invariant.moves_on;
         target = c.elements.invariant.target;
       };
-      told = λ strict due written ready. recode_told _ _ _ _ _ _ _ ready _ (Ok (tt {0})) all;
-      exactly = λ strict due written alone. exactly _ _ _ _ old _ _ alone _ (Ok (tt {0})) all;
-      front = λ strict due written ready. recode_exactly _ _ _ _ _ _ _ ready _ (Ok (tt {0})) all;
-      anyhow = λ strict due written told. recode_anyhow _ _ _ (length c.args.buffer.now) _ _ _ told _ (Ok (tt {0})) all;
+      told = λ allowed due written ready. recode_told _ _ _ _ _ _ _ ready _ (Ok (tt {0})) all;
+      exactly = λ allowed due written alone. exactly _ _ _ _ old _ _ alone _ (Ok (tt {0})) all;
+      front = λ allowed due written ready. recode_exactly _ _ _ _ _ _ _ ready _ (Ok (tt {0})) all;
+      anyhow =
+          λ allowed due written told. recode_anyhow _ _ _ (length c.args.buffer.now) _ _ _ told _ (Ok (tt {0})) all;
     }

@@ -1,11 +1,10 @@
 use Rattle.std.proofs.Common.{rules}
-use Rattle.ciborium_ll.specs.Spellings.{is_shortest}
 use Rattle.tool_files.proofs.InputLaws.{verdict_counted}
 use Rattle.tool_files.proofs.check.check_input.Goals as goal
 
 pub returns-clause-counts : goal.returns-clause-counts
 returns-clause-counts g c =
-    verdict_counted _ (is_shortest c.args.options.spelling) c.args.options.skip c.args.options.items c.args.options.one
+    verdict_counted _ c.args.options.spelling c.args.options.skip c.args.options.items c.args.options.one
     c.args.options.depth (g.R.Read.remaining c.args.reader)
     c.new-reader.result c.decoder_of-decoder.result c.wanted_part-verdict.new.decoder c.wanted_part-verdict.result
     c.failed_or.result c.into_parts-fault.result.2 c.decoder_of-decoder.ensures c.new-reader.ensures.ahead

@@ -1,5 +1,4 @@
 use Rattle.std.proofs.Common.{rules, Err, ap}
-use Rattle.ciborium_ll.specs.Spellings.{is_shortest}
 use Rattle.tool_files.specs.Shows.{dumps_none, dumps_rest}
 use Rattle.tool_files.proofs.PartLaws.{mode_then}
 use Rattle.tool_files.proofs.dump.dump_rows.Goals as goal
@@ -50,6 +49,6 @@ returns-in-Some g c = record {
 
 pub dump_all-requires : goal.dump_all-requires
 dump_all-requires g c = record {
-  alike = mode_then _ (is_shortest c.args.options.spelling) c.new.result c.args.options.skip c.args.options.depth
+  alike = mode_then _ c.args.options.spelling c.new.result c.args.options.skip c.args.options.depth
       c.decoder_of-decoder.result c.decoder_of-decoder.ensures c.skip_items.new.decoder c.in_default.ensures.skipped;
 }

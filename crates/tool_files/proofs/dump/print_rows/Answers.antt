@@ -1,11 +1,12 @@
-use Rattle.std.proofs.Common.{Bool, subst, ◌↔◌, IsOk}
+use Rattle.std.proofs.Common.{subst, ◌↔◌, IsOk}
+use Rattle.ciborium_ll_grammar.specs.declared.spelling.Spelling.{Spelling}
 use Rattle.cbor_dump.specs.Sequences.{IsSequence}
 use Rattle.tool_verdicts.proofs.FoundLaws.{dump_found}
 use Rattle.tool_files.proofs.dump.print_rows.Goals as goal
 
 pub returns-clause-exactly : goal.returns-clause-exactly
 returns-clause-exactly g c = λ due ready all.
-    subst (λ (mode : Bool). IsOk c.dump.result ↔ IsSequence mode c.args.depth due) c.requires.alike.mode
+    subst (λ (mode : Spelling). IsOk c.dump.result ↔ IsSequence mode c.args.depth due) c.requires.alike.mode
     (c.dump.ensures.exactly due c.requires.alike ready all)
 
 pub returns-clause-told : goal.returns-clause-told

@@ -1,6 +1,6 @@
 use Rattle.std.proofs.Common.{rules, Err, add-one, arith, sym, subst}
 use Rattle.ciborium_ll.proofs.DecodingLaws.{MovesOn-none, MovesOn-then}
-use Rattle.cbor_skip.specs.Skipping.{ReadsItem, SkipsItem, strictness}
+use Rattle.cbor_skip.specs.Skipping.{ReadsItem, SkipsItem, allowed_by}
 use Rattle.cbor_json.specs.Reading.{OnReading}
 use Rattle.cbor_dump.proofs.ItemRows.{items_counted}
 use Rattle.cbor_dump.proofs.SequenceLaws.{none_read, one_more}
@@ -37,7 +37,7 @@ pub items-smaller : goal.items-smaller
 items-smaller g c =
     let item : ReadsItem g.R.Read c.args.depth c.items.decoder c.write_line.new.decoder =
     rw c.offset-place.ensures.same at c.in_default.ensures.reads.reads in
-    let some = items_counted (strictness c.items.decoder) c.args.depth 1 item.item item.is_item in
+    let some = items_counted (allowed_by c.items.decoder) c.args.depth 1 item.item item.is_item in
     omega (arith, some, item.passed.offset)
 
 pub items-preserved : goal.items-preserved
@@ -75,7 +75,7 @@ pub overflow_add-shown : goal.overflow_add-shown
 overflow_add-shown g c =
     let item : ReadsItem g.R.Read c.args.depth c.items.decoder c.write_line.new.decoder =
     rw c.offset-place.ensures.same at c.in_default.ensures.reads.reads in
-    let some = items_counted (strictness c.items.decoder) c.args.depth 1 item.item item.is_item in
+    let some = items_counted (allowed_by c.items.decoder) c.args.depth 1 item.item item.is_item in
     let reads = c.items.invariant.reads in
-    let all = items_counted (strictness c.args.decoder.now) c.args.depth c.items.shown reads.bytes reads.are_items in
+    let all = items_counted (allowed_by c.args.decoder.now) c.args.depth c.items.shown reads.bytes reads.are_items in
     omega (arith, some, all, item.passed.offset, reads.passed.offset)

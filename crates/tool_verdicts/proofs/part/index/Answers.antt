@@ -1,5 +1,5 @@
 use Rattle.std.proofs.Common.{rules, ◌≡◌, ◌-◌, ◌++◌, ◌∷◌, [], length, Err, Some, arith, length-append, refl, sym, ap, ◌∙◌}
-use Rattle.cbor_skip.specs.Skipping.{ReadsItem, SkipsItem, strictness}
+use Rattle.cbor_skip.specs.Skipping.{ReadsItem, SkipsItem, allowed_by}
 use Rattle.cbor_dump.proofs.ItemRows.{items_counted}
 use Rattle.tool_verdicts.specs.Parts.{IsBelow, enough, stops}
 use Rattle.tool_verdicts.specs.declared.part.Span.{Span}
@@ -56,16 +56,17 @@ overflow_add-items g c =
     let i = c.items.invariant in
     let item : ReadsItem g.R.Read c.args.depth c.items.decoder c.skip_item.new.decoder =
     rw c.offset-place.ensures.same at c.in_default.ensures.skipped.skipped in
-    let some = items_counted (strictness c.items.decoder) c.args.depth 1 item.item item.is_item in
+    let some = items_counted (allowed_by c.items.decoder) c.args.depth 1 item.item item.is_item in
     let reads = read_items g.R.Read c.args.depth c.args.decoder.now c.items.decoder i.places i.reads in
-    let all = items_counted (strictness c.args.decoder.now) c.args.depth (length i.places) reads.bytes reads.are_items in
+    let all =
+    items_counted (allowed_by c.args.decoder.now) c.args.depth (length i.places) reads.bytes reads.are_items in
     omega (arith, some, all, i.counted, item.passed.offset, reads.passed.offset)
 
 pub items-smaller : goal.items-smaller
 items-smaller g c =
     let item : ReadsItem g.R.Read c.args.depth c.items.decoder c.skip_item.new.decoder =
     rw c.offset-place.ensures.same at c.in_default.ensures.skipped.skipped in
-    let some = items_counted (strictness c.items.decoder) c.args.depth 1 item.item item.is_item in
+    let some = items_counted (allowed_by c.items.decoder) c.args.depth 1 item.item item.is_item in
     rw c.offset.ensures.same (omega (arith, some, item.passed.offset))
 
 pub items-preserved : goal.items-preserved

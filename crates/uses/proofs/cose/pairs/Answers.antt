@@ -1,7 +1,7 @@
 use Rattle.std.proofs.Common.{rules, ◌≡◌, ◌-◌, false, true, arith}
 use Rattle.ciborium_ll.specs.Types.Header.TheVariants as h
 use Rattle.cbor_skip.specs.Remaining.{is_done}
-use Rattle.cbor_skip.specs.Skipping.{ReadsItem, strictness}
+use Rattle.cbor_skip.specs.Skipping.{ReadsItem, allowed_by}
 use Rattle.cbor_skip.proofs.ItemSteps.{ended, none_read, one_more}
 use Rattle.uses.specs.declared.cose.TheConstants.{MAP_DEPTH}
 use Rattle.ciborium_ll.proofs.ItemJoins.{item_some}
@@ -30,7 +30,7 @@ pub items-smaller : goal.items-smaller
 items-smaller g c =
     let item : ReadsItem g.R.Read (MAP_DEPTH - 1) c.items.decoder c.skip_item.new.decoder =
     rw c.offset-place.ensures.same at c.in_default.ensures.skipped.skipped in
-    let some = item_some (strictness c.items.decoder) (MAP_DEPTH - 1) item.item item.is_item in
+    let some = item_some (allowed_by c.items.decoder) (MAP_DEPTH - 1) item.item item.is_item in
     omega (arith, some, item.passed.offset)
 
 pub items-preserved : goal.items-preserved

@@ -1,7 +1,7 @@
 use Rattle.std.proofs.Common.{rules, ◌≡◌, ◌∙◌, Err, inl, refl, sym, ap, arith, length, length-append}
 use Rattle.ciborium_ll.proofs.DecodingLaws.{exit_is, MovesOn-none, MovesOn-then}
-use Rattle.ciborium_ll.specs.Decoding.{strict_of}
-use Rattle.ciborium_ll.specs.Segments.{string_strict}
+use Rattle.ciborium_ll.specs.Decoding.{spelling_of}
+use Rattle.ciborium_ll.specs.Segments.{string_spelling}
 use Rattle.uses.specs.declared.texts.TextError.TheVariants as t
 use Rattle.uses.proofs.TextLaws.{as_strict, gathered_none, gathered_more, goes_on, body_fails}
 use Rattle.uses.proofs.TextLaws.{body_lacks}
@@ -23,7 +23,7 @@ returns-in_default-clause-gathers g c =
       bodies = so_far.bodies;
       whole = so_far.whole;
       few = omega (arith, c.segments-test.true, so_far.counted);
-      ends = goes_on g.R.Read (string_strict c.segments.segments) _ _ _ _ _ c.advance.new.self.progress _ _ _
+      ends = goes_on g.R.Read (string_spelling c.segments.segments) _ _ _ _ _ c.advance.new.self.progress _ _ _
           c.segments.invariant.mode so_far
           (rw c.in_default.is at c.in_ok-body.ensures.advances) c.in_ok-body.ensures.opens
           c.in_ok-body.ensures.moves_on;
@@ -35,7 +35,7 @@ returns-in_err-body-clause-stops g c =
     let so_far = c.segments.invariant.so_far in
     rw same (inl (record {
       bodies = so_far.bodies;
-      fails = goes_on g.R.Read (string_strict c.segments.segments) _ _ _ _ _ c.advance.new.self.progress _ _ _
+      fails = goes_on g.R.Read (string_spelling c.segments.segments) _ _ _ _ _ c.advance.new.self.progress _ _ _
           c.segments.invariant.mode so_far
           c.in_err-body.ensures.advances c.in_err-body.ensures.opens c.in_err-body.ensures.moves_on;
     }))
@@ -47,7 +47,7 @@ returns-then-body-limit-clause-stops g c =
     inl (record {
       bodies = so_far.bodies;
       body = c.in-Some.body;
-      goes_on = goes_on g.R.Read (string_strict c.segments.segments) _ _ _ _ _ c.advance.new.self.progress _ _ _
+      goes_on = goes_on g.R.Read (string_spelling c.segments.segments) _ _ _ _ _ c.advance.new.self.progress _ _ _
           c.segments.invariant.mode so_far
           (rw c.in-Some.is at c.in_ok-body.ensures.advances) c.in_ok-body.ensures.opens c.in_ok-body.ensures.moves_on;
       too_long = omega (arith, c.if-body-limit.true, c.len.ensures, c.segments.invariant.within, counted);
@@ -59,7 +59,7 @@ returns-in-Err-Read-clause-stops g c =
     let so_far = c.segments.invariant.so_far in
     body_fails g.R.Read c.args.limit c.args.segments.now.progress c.args.segments.now.decoder.now so_far.bodies
     c.in-Some.body c.advance.new.self.decoder.now c.copy.new.self.decoder.now
-    (goes_on g.R.Read (string_strict c.segments.segments) _ _ _ _ _ c.advance.new.self.progress _ _ _
+    (goes_on g.R.Read (string_spelling c.segments.segments) _ _ _ _ _ c.advance.new.self.progress _ _ _
     c.segments.invariant.mode so_far
     (rw c.in-Some.is at c.in_ok-body.ensures.advances) c.in_ok-body.ensures.opens c.in_ok-body.ensures.moves_on)
     c.in-Err-Read.error _ (length c.segments.buffer) c.in-Err-Read.error-is (search rules) copied.ends
@@ -70,7 +70,7 @@ returns-in-Err-Write-clause-stops g c =
     let so_far = c.segments.invariant.so_far in
     body_lacks g.R.Read c.args.limit c.args.segments.now.progress c.args.segments.now.decoder.now so_far.bodies
     c.in-Some.body c.advance.new.self.decoder.now c.copy.new.self.decoder.now
-    (goes_on g.R.Read (string_strict c.segments.segments) _ _ _ _ _ c.advance.new.self.progress _ _ _
+    (goes_on g.R.Read (string_spelling c.segments.segments) _ _ _ _ _ c.advance.new.self.progress _ _ _
     c.segments.invariant.mode so_far
     (rw c.in-Some.is at c.in_ok-body.ensures.advances) c.in_ok-body.ensures.opens c.in_ok-body.ensures.moves_on)
     _ (length c.segments.buffer) c.segments.text c.copy.new.writer (search rules) copied
@@ -90,7 +90,7 @@ segments-preserved g c =
       mode = c.in-Ok.ensures.mode ∙ (c.in_ok-body.ensures.mode ∙ kept.mode);
       so_far = gathered_more g.R.Read _ _ _ _ c.copy.new.writer.bytes.items _ c.segments.segments.decoder.now
           c.advance.new.self.decoder.now c.copy.new.self.decoder.now c.in-Some.body kept.so_far
-          (as_strict g.R.Read (string_strict c.segments.segments) (strict_of c.args.segments.now.decoder.now) _
+          (as_strict g.R.Read (string_spelling c.segments.segments) (spelling_of c.args.segments.now.decoder.now) _
           c.copy.new.self.progress
           _ _ _ kept.mode advanced opens advance)
           copied.ends appended;

@@ -9,22 +9,22 @@ use Rattle.cbor_checker.proofs.checker.Checker.end.Goals as goal
 
 pub returns-then-self-eq0-clause-tells : goal.returns-then-self-eq0-clause-tells
 unfolding HasRead
-returns-then-self-eq0-clause-tells c = λ strict depth read is.
-    inl (length_zero read (omega (arith, fed_counts strict depth read _ is, c.if-self-eq0.true)))
+returns-then-self-eq0-clause-tells c = λ allowed depth read is.
+    inl (length_zero read (omega (arith, fed_counts allowed depth read _ is, c.if-self-eq0.true)))
 
 pub returns-in-Ended-clause-tells : goal.returns-in-Ended-clause-tells
-returns-in-Ended-clause-tells c = λ strict depth read is.
-    inr (subst (Tells strict depth read) c.in-Ended.is (c.progress.ensures.tells strict depth read is)).0
+returns-in-Ended-clause-tells c = λ allowed depth read is.
+    inr (subst (Tells allowed depth read) c.in-Ended.is (c.progress.ensures.tells allowed depth read is)).0
 
 pub returns-in-Fault-clause-tells : goal.returns-in-Fault-clause-tells
-returns-in-Fault-clause-tells c = λ strict depth read is.
-    subst (Tells strict depth read) c.in-Fault.is (c.progress.ensures.tells strict depth read is)
+returns-in-Fault-clause-tells c = λ allowed depth read is.
+    subst (Tells allowed depth read) c.in-Fault.is (c.progress.ensures.tells allowed depth read is)
 
 pub returns-in-More-clause-tells : goal.returns-in-More-clause-tells
 unfolding HasRead
-returns-in-More-clause-tells c = λ strict depth read is. (
-  omega (arith, fed_counts strict depth read _ is, c.if-self-eq0.false),
-  subst (Tells strict depth read) c.in-More.is (c.progress.ensures.tells strict depth read is),
+returns-in-More-clause-tells c = λ allowed depth read is. (
+  omega (arith, fed_counts allowed depth read _ is, c.if-self-eq0.false),
+  subst (Tells allowed depth read) c.in-More.is (c.progress.ensures.tells allowed depth read is),
 )
 
 pub returns-then-self-eq0-clause-is : goal.returns-then-self-eq0-clause-is

@@ -8,13 +8,13 @@ use Rattle.cbor_checker.proofs.checker.Checker.feed.Goals as goal
 
 pub returns-clause-read : goal.returns-clause-read
 unfolding HasRead
-returns-clause-read c = λ strict depth read is.
+returns-clause-read c = λ allowed depth read is.
     let fed_to = c.feed.ensures in
-    let now = fed_to.fed strict depth read is in (
+    let now = fed_to.fed allowed depth read is in (
       now,
-      reads strict depth read c.args.bytes.now c.feed.result
+      reads allowed depth read c.args.bytes.now c.feed.result
           (spot_in c.feed.new.self c.feed.new.kinds c.feed.new.counts) fed_to.taken fed_to.all fed_to.long now
-          (fed_to.tells strict depth read is) (omega (arith, fed_to.counted strict depth read is)),
+          (fed_to.tells allowed depth read is) (omega (arith, fed_to.counted allowed depth read is)),
     )
 
 pub returns-clause-is : goal.returns-clause-is

@@ -5,15 +5,15 @@ use Rattle.cbor_checker.proofs.checker.Checker.load.Goals as goal
 
 pub returns-then-not-load-clause-kept : goal.returns-then-not-load-clause-kept
 unfolding Keeps
-returns-then-not-load-clause-kept c = λ strict depth read keeps.
+returns-then-not-load-clause-kept c = λ allowed depth read keeps.
     let (spot, fed, holds) = keeps in
     let both = sym c.if-not-load.true ∙ c.load.ensures.found spot holds in absurd cc
 
 pub returns-clause-kept : goal.returns-clause-kept
 unfolding HasRead Keeps
-returns-clause-kept c = λ strict depth read keeps.
+returns-clause-kept c = λ allowed depth read keeps.
     let (spot, fed, holds) = keeps in
-    (refl, subst (IsFed strict depth read) (sym (c.load.ensures.same spot holds)) fed)
+    (refl, subst (IsFed allowed depth read) (sym (c.load.ensures.same spot holds)) fed)
 
 pub returns-clause-some : goal.returns-clause-some
 unfolding Saves

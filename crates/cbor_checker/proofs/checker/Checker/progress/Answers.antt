@@ -5,9 +5,9 @@ use Rattle.cbor_checker.proofs.checker.Checker.progress.Goals as goal
 
 pub returns-clause-tells : goal.returns-clause-tells
 unfolding HasRead
-returns-clause-tells c = λ strict depth read is.
+returns-clause-tells c = λ allowed depth read is.
     let checker = c.args.self.now in
-    told strict depth read _ _ (c.answer.ensures (spot_of checker) refl refl refl) is checker.position.left
+    told allowed depth read _ _ (c.answer.ensures (spot_of checker) refl refl refl) is checker.position.left
     checker.position.begun
 
 pub returns-clause-is : goal.returns-clause-is

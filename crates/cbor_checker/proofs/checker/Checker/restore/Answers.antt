@@ -2,11 +2,11 @@ use Rattle.std.proofs.Common.{sym, ◌∙◌}
 use Rattle.cbor_checker.proofs.checker.Checker.restore.Goals as goal
 
 pub returns-then-load-clause-kept : goal.returns-then-load-clause-kept
-returns-then-load-clause-kept c = λ strict depth read keeps. (c.load.ensures.kept strict depth read keeps).1
+returns-then-load-clause-kept c = λ allowed depth read keeps. (c.load.ensures.kept allowed depth read keeps).1
 
 pub returns-else-load-clause-kept : goal.returns-else-load-clause-kept
-returns-else-load-clause-kept c = λ strict depth read keeps.
-    let both = sym c.if-load.false ∙ (c.load.ensures.kept strict depth read keeps).0 in absurd cc
+returns-else-load-clause-kept c = λ allowed depth read keeps.
+    let both = sym c.if-load.false ∙ (c.load.ensures.kept allowed depth read keeps).0 in absurd cc
 
 pub returns-then-load-clause-some : goal.returns-then-load-clause-some
 returns-then-load-clause-some c = c.load.ensures.some c.if-load.true

@@ -9,4 +9,4 @@ returns-clause-saves c = let holds : Holds c.save.new.snapshot (spot_of c.args.s
 
 pub returns-clause-keeps : goal.returns-clause-keeps
 unfolding HasRead Keeps Saves
-returns-clause-keeps c = λ strict depth read is. (spot_of c.args.self.now, is, returns-clause-saves c)
+returns-clause-keeps c = λ allowed depth read is. (spot_of c.args.self.now, is, returns-clause-saves c)

@@ -10,7 +10,7 @@ returns-then-not-is_state-clause-same c = search rules
 pub returns-clause-some : goal.returns-clause-some
 returns-clause-some c = λ yes. record {
   phase = sym c.in-Some.ensures;
-  strict = sym c.in-Some-spelling_of.ensures;
+  allowed = sym c.in-Some-spelling_of.ensures;
   title = sym (c.load.ensures ∙ ap (λ (z : ℕ). take z c.args.snapshot.now.title) c.from.ensures);
   within = sym c.in-Some-of.ensures;
   depth = refl;

@@ -5,7 +5,7 @@ use Rattle.cbor_checker.proofs.position.Position.save.Goals as goal
 pub returns-clause-holds : goal.returns-clause-holds
 returns-clause-holds c = λ known. record {
   phase = c.numbers-phase.ensures;
-  strict = search rules;
+  allowed = search rules;
   title = c.save_into.ensures.saved;
   within = c.numbers-strings.ensures;
   depth = refl;

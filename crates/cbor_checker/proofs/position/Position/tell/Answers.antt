@@ -8,12 +8,12 @@ use Rattle.cbor_checker.proofs.TellLaws.{fed_counts, goes_on, more_due, never_lo
 use Rattle.cbor_checker.proofs.position.Position.tell.Goals as goal
 
 pub returns-in-More-clause-tells : goal.returns-in-More-clause-tells
-returns-in-More-clause-tells c = λ kinds counts strict depth fed is.
+returns-in-More-clause-tells c = λ kinds counts allowed depth fed is.
     let spot : Spot = spot_in c.args.self.now kinds counts in
     let due : is_due spot.phase ≡ true =
     more_due spot.phase spot c.in-More.field-0 (search (rules, c.answer.ensures spot refl refl refl)) in (
-      goes_on strict depth fed spot is due,
-      omega (arith, c.requires.full c.if-left.true due, fed_counts strict depth fed spot is),
+      goes_on allowed depth fed spot is due,
+      omega (arith, c.requires.full c.if-left.true due, fed_counts allowed depth fed spot is),
     )
 
 pub returns-in-More-clause-answers : goal.returns-in-More-clause-answers
@@ -28,11 +28,11 @@ returns-in_default-2-clause-long c = λ is.
     absurd (never_long spot.phase spot (search (rules, c.answer.ensures spot refl refl refl, is)))
 
 pub returns-in_default-clause-tells : goal.returns-in_default-clause-tells
-returns-in_default-clause-tells c = λ kinds counts strict depth fed is.
-    told strict depth fed _ _ (c.answer.ensures (spot_in c.args.self.now kinds counts) refl refl refl) is
+returns-in_default-clause-tells c = λ kinds counts allowed depth fed is.
+    told allowed depth fed _ _ (c.answer.ensures (spot_in c.args.self.now kinds counts) refl refl refl) is
     c.args.self.now.left c.args.self.now.begun
 
 pub returns-in_default-2-clause-tells : goal.returns-in_default-2-clause-tells
-returns-in_default-2-clause-tells c = λ kinds counts strict depth fed is.
-    told strict depth fed _ _ (c.answer.ensures (spot_in c.args.self.now kinds counts) refl refl refl) is
+returns-in_default-2-clause-tells c = λ kinds counts allowed depth fed is.
+    told allowed depth fed _ _ (c.answer.ensures (spot_in c.args.self.now kinds counts) refl refl refl) is
     c.args.self.now.left c.args.self.now.begun

@@ -16,7 +16,7 @@ all_taken n m within none more =
 
 pub returns-then-not-load-clause-read : goal.returns-then-not-load-clause-read
 unfolding Keeps
-returns-then-not-load-clause-read c = λ strict depth read keeps.
+returns-then-not-load-clause-read c = λ allowed depth read keeps.
     let (old, is, holds) = keeps in
     let both = sym c.if-not-load.true ∙ c.load.ensures.found old holds in absurd cc
 
@@ -54,28 +54,29 @@ returns-clause-stays c = λ checker progress holds is none.
 
 pub returns-clause-read : goal.returns-clause-read
 unfolding Keeps
-returns-clause-read c = λ strict depth read keeps.
+returns-clause-read c = λ allowed depth read keeps.
     let (old, is, holds) = keeps in
-    let was = subst (IsFed strict depth read) (sym (c.load.ensures.same old holds)) is in
+    let was = subst (IsFed allowed depth read) (sym (c.load.ensures.same old holds)) is in
     let taken = c.take-taken.ensures in
     let kinds = c.take-taken.new.kinds in
     let counts = c.take-taken.new.counts in
     let new : Spot = spot_in c.take-taken.new.self kinds counts in
-    let now = taken.fed strict depth read was in (
+    let now = taken.fed allowed depth read was in (
       (new, now, c.save.ensures.holds taken.known),
-      reads strict depth read c.args.bytes.now (record { taken = c.take-taken.result; progress = c.tell.result }) new
+      reads allowed depth read c.args.bytes.now (record { taken = c.take-taken.result; progress = c.tell.result }) new
           taken.taken (returns-clause-all c) (returns-clause-long c) now
-          (c.tell.ensures.tells kinds counts strict depth _ now) (omega (arith, taken.counted strict depth read was)),
+          (c.tell.ensures.tells kinds counts allowed depth _ now) (omega (arith, taken.counted allowed depth read was)),
     )
 
 pub returns-clause-is : goal.returns-clause-is
 unfolding HasRead Keeps
-returns-clause-is c = λ strict depth read keeps checker has_read.
+returns-clause-is c = λ allowed depth read keeps checker has_read.
     let (old, is, holds) = keeps in
-    let was = subst (IsFed strict depth read) (sym (c.load.ensures.same old holds)) is in
+    let was = subst (IsFed allowed depth read) (sym (c.load.ensures.same old holds)) is in
     let kinds = c.take-taken.new.kinds in
     let counts = c.take-taken.new.counts in
     let new : Spot = spot_in c.take-taken.new.self kinds counts in
-    let same = one_spot strict depth _ new (spot_of checker) (c.take-taken.ensures.fed strict depth read was) has_read in
+    let same =
+    one_spot allowed depth _ new (spot_of checker) (c.take-taken.ensures.fed allowed depth read was) has_read in
     answers_piece c.tell.result checker
     (subst (IsAnswer c.tell.result) same (c.tell.ensures.answers kinds counts))

@@ -12,14 +12,14 @@ returns-clause-full c = λ less due.
     omega (arith, counts, c.run_all.ensures.all due, most, long, c.min-counted.ensures, less)
 
 pub returns-clause-fed : goal.returns-clause-fed
-returns-clause-fed c = λ strict depth fed is.
-    leads_fed strict depth fed _ _ _ is
+returns-clause-fed c = λ allowed depth fed is.
+    leads_fed allowed depth fed _ _ _ is
     (run_front _ _ _ _ _ c.run_all.ensures.within (search rules) c.run_all.ensures.leads)
 
 pub returns-clause-counted : goal.returns-clause-counted
-returns-clause-counted c = λ strict depth fed is.
+returns-clause-counted c = λ allowed depth fed is.
     let most = length-take-le c.min-counted.result c.args.bytes.now (search rules) in
-    omega (arith, fed_counts strict depth fed _ is, most, c.run_all.ensures.within, c.min-counted.ensures)
+    omega (arith, fed_counts allowed depth fed _ is, most, c.run_all.ensures.within, c.min-counted.ensures)
 
 pub returns-clause-stays : goal.returns-clause-stays
 returns-clause-stays c = λ off.

@@ -1,5 +1,6 @@
-use Rattle.std.proofs.Common.{◌≡◌, ◌∙◌, false, Err, refl, sym, subst, arith}
-use Rattle.ciborium_ll.specs.Decoding.{DecoderPullAnswer, strict_of}
+use Rattle.std.proofs.Common.{◌≡◌, ◌∙◌, Err, refl, sym, subst, arith}
+use Rattle.ciborium_ll_grammar.specs.declared.spelling.Spelling.TheVariants.{Any}
+use Rattle.ciborium_ll.specs.Decoding.{DecoderPullAnswer, spelling_of}
 use Rattle.ciborium_ll.proofs.DecodingLaws.{exit_is}
 use Rattle.ciborium_ll_decoder.proofs.NestLaws.{title_some}
 use Rattle.cbor_diag.specs.NextShows.{none}
@@ -42,7 +43,7 @@ pub returns-in_ok-open-in-Open-clause-next : goal.returns-in_ok-open-in-Open-cla
 returns-in_ok-open-in-Open-clause-next g c =
     let pulls = rw c.offset-place.ensures.same at c.in_ok-marked.ensures.pulls in
     let first = rw c.offset-place.ensures.same at c.in_ok-marked.ensures.moves_on in
-    let loose : strict_of c.args.decoder.now ≡ false =
+    let loose : spelling_of c.args.decoder.now ≡ Any =
     sym c.spelling-spelling.ensures ∙ c.in-Open.ensures.1 in
     next_open g.R.Read g.W.Write g.P.Parser.kind 64 c.args.far.opens c.args.far.is_first c.args.decoder.now
     c.pull_marked.new.decoder c.args.writer.now c.in_ok-marked.marked pulls first.steady _ _ c.in-Open.ensures.0

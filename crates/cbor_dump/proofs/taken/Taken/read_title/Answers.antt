@@ -1,5 +1,4 @@
 use Rattle.std.proofs.Common.{◌≡◌, ◌%◌, ◌∙◌, ℕ, List, length, get_or, Err, Some, None, ap, subst, sym, arith}
-use Rattle.ciborium_ll.specs.Spellings.{is_shortest}
 use Rattle.ciborium_ll.specs.Title.{affix_len}
 use Rattle.ciborium_ll.proofs.DecodingLaws.{IfSome-all, exit_is}
 use Rattle.cbor_skip.proofs.StrictnessLaws.{taken_when}
@@ -41,7 +40,7 @@ returns-in-None-clause-waits g c = λ waits.
 pub returns-in_err-read-clause-row : goal.returns-in_err-read-clause-row
 returns-in_err-read-clause-row g c =
     let same = exit_is c.from_residual.result c.in_err-read.field-0.0 c.from_residual.ensures.1 in
-    rw same (row_nothing g.R.Read (is_shortest c.args.spelling) 1 _ _ _ _ _ c.in_err-read.ensures.reads _
+    rw same (row_nothing g.R.Read c.args.spelling 1 _ _ _ _ _ c.in_err-read.ensures.reads _
     (c.in_err-read.ensures.none ∙ c.requires.none))
 
 pub returns-in_err-read-clause-left : goal.returns-in_err-read-clause-left
@@ -63,7 +62,7 @@ returns-in_err-read_affix-clause-row g c =
     rw c.bytes.ensures at c.affix_len.ensures.value in
     let one = first_byte g.R.Read _ _ _ _ c.requires.none first in
     let some = c.in_err-read_affix.ensures.some in
-    rw same (row_first g.R.Read (is_shortest c.args.spelling) _ _ _ _ _ _ c.in_err-read_affix.ensures.reads _ _
+    rw same (row_first g.R.Read c.args.spelling _ _ _ _ _ _ c.in_err-read_affix.ensures.reads _ _
     (c.in_err-read_affix.ensures.none ∙ one) (omega (arith, some, announced)))
 
 pub returns-in_err-read_affix-clause-left : goal.returns-in_err-read_affix-clause-left
@@ -99,7 +98,7 @@ returns-in-None-clause-row g c =
     let first = c.in_ok-read.ensures.reads in
     let announced : c.affix_len.result ≡ affix_len (get_or (taken_bytes c.read.new.self) 0 0 % 32) =
     rw c.bytes.ensures at c.affix_len.ensures.value in
-    let means = row_means g.R.Read (is_shortest c.args.spelling) _ _ _ _ _ _ _ _ None c.requires.none first announced
+    let means = row_means g.R.Read c.args.spelling _ _ _ _ _ _ _ _ None c.requires.none first announced
     c.affix_len.ensures.few c.in_ok-read_affix.ensures.reads c.bytes-2.ensures c.in-None.ensures in
     means
 
@@ -112,20 +111,20 @@ returns-in-None-clause-pulls g c = λ alike at.
     let first = c.in_ok-read.ensures.reads in
     let announced : c.affix_len.result ≡ affix_len (get_or (taken_bytes c.read.new.self) 0 0 % 32) =
     rw c.bytes.ensures at c.affix_len.ensures.value in
-    let means = row_means g.R.Read (is_shortest c.args.spelling) _ _ _ _ _ _ _ _ None c.requires.none first announced
+    let means = row_means g.R.Read c.args.spelling _ _ _ _ _ _ _ _ None c.requires.none first announced
     c.affix_len.ensures.few c.in_ok-read_affix.ensures.reads c.bytes-2.ensures c.in-None.ensures in
     let idle = alike.none_waits in
     let begun = first_passed g.R.Read 1 _ _ _ _ c.requires.none idle first in
     let passed = more_passed g.R.Read _ _ _ _ _ _ begun (passes_idle g.R.Read _ _ _ begun idle)
     c.in_ok-read_affix.ensures.reads in
-    row_refused g.R.Read (is_shortest c.args.spelling) _ _ _ alike passed c.args.place at means
+    row_refused g.R.Read c.args.spelling _ _ _ alike passed c.args.place at means
 
 pub returns-in-Some-clause-title : goal.returns-in-Some-clause-title
 returns-in-Some-clause-title g c =
     let first = c.in_ok-read.ensures.reads in
     let announced : c.affix_len.result ≡ affix_len (get_or (taken_bytes c.read.new.self) 0 0 % 32) =
     rw c.bytes.ensures at c.affix_len.ensures.value in
-    let means = row_means g.R.Read (is_shortest c.args.spelling) _ _ _ _ _ _ _ _ (Some c.in-Some.header) c.requires.none
+    let means = row_means g.R.Read c.args.spelling _ _ _ _ _ _ _ _ (Some c.in-Some.header) c.requires.none
     first
     announced c.affix_len.ensures.few c.in_ok-read_affix.ensures.reads c.bytes-2.ensures c.in-Some.ensures in
     means.0
@@ -135,10 +134,10 @@ returns-in-Some-clause-taken g c =
     let first = c.in_ok-read.ensures.reads in
     let announced : c.affix_len.result ≡ affix_len (get_or (taken_bytes c.read.new.self) 0 0 % 32) =
     rw c.bytes.ensures at c.affix_len.ensures.value in
-    let means = row_means g.R.Read (is_shortest c.args.spelling) _ _ _ _ _ _ _ _ (Some c.in-Some.header) c.requires.none
+    let means = row_means g.R.Read c.args.spelling _ _ _ _ _ _ _ _ (Some c.in-Some.header) c.requires.none
     first
     announced c.affix_len.ensures.few c.in_ok-read_affix.ensures.reads c.bytes-2.ensures c.in-Some.ensures in
-    taken_when (is_shortest c.args.spelling) _ c.in-Some.header means.1
+    taken_when c.args.spelling _ c.in-Some.header means.1
 
 pub returns-in-Some-clause-passes : goal.returns-in-Some-clause-passes
 returns-in-Some-clause-passes g c = λ none.
@@ -150,14 +149,14 @@ returns-in-Some-clause-pulls g c = λ alike at.
     let first = c.in_ok-read.ensures.reads in
     let announced : c.affix_len.result ≡ affix_len (get_or (taken_bytes c.read.new.self) 0 0 % 32) =
     rw c.bytes.ensures at c.affix_len.ensures.value in
-    let means = row_means g.R.Read (is_shortest c.args.spelling) _ _ _ _ _ _ _ _ (Some c.in-Some.header) c.requires.none
+    let means = row_means g.R.Read c.args.spelling _ _ _ _ _ _ _ _ (Some c.in-Some.header) c.requires.none
     first
     announced c.affix_len.ensures.few c.in_ok-read_affix.ensures.reads c.bytes-2.ensures c.in-Some.ensures in
     let idle = alike.none_waits in
     let begun = first_passed g.R.Read 1 _ _ _ _ c.requires.none idle first in
     let passed = more_passed g.R.Read _ _ _ _ _ _ begun (passes_idle g.R.Read _ _ _ begun idle)
     c.in_ok-read_affix.ensures.reads in
-    row_pulled g.R.Read (is_shortest c.args.spelling) _ _ _ alike passed c.in-Some.header means
+    row_pulled g.R.Read c.args.spelling _ _ _ alike passed c.in-Some.header means
 
 pub returns-in-None-clause-keeps : goal.returns-in-None-clause-keeps
 returns-in-None-clause-keeps g c =

@@ -3,4 +3,4 @@ use Rattle.cbor_dump.proofs.WalkLaws.{due_first}
 use Rattle.cbor_dump.proofs.walk.Walk.new.Goals as goal
 
 pub returns : goal.returns
-returns c = λ strict. due_first strict c.args.depth _ refl refl refl refl
+returns c = λ allowed. due_first allowed c.args.depth _ refl refl refl refl

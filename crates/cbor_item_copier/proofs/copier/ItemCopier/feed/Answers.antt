@@ -5,13 +5,13 @@ use Rattle.cbor_item_copier.proofs.copier.ItemCopier.feed.Goals as goal
 
 pub returns-clause-read : goal.returns-clause-read
 unfolding HasCopied
-returns-clause-read c = λ strict depth read written is.
+returns-clause-read c = λ allowed depth read written is.
     let took = c.take.ensures in
-    let now = took.copied strict depth read written is in (
+    let now = took.copied allowed depth read written is in (
       now,
-      copies strict depth read written c.args.bytes.now (take c.take.result.written c.take.new.out) c.take.result
+      copies allowed depth read written c.args.bytes.now (take c.take.result.written c.take.new.out) c.take.result
           (item_spot c.take.new.self) took.taken took.all took.long now.checked
-          (took.tells strict depth read written is),
+          (took.tells allowed depth read written is),
     )
 
 pub returns-clause-is : goal.returns-clause-is

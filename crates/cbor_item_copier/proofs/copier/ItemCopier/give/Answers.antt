@@ -9,6 +9,6 @@ returns-clause-full c =
     c.feed.ensures.none
 
 pub returns-clause-copied : goal.returns-clause-copied
-returns-clause-copied c = λ strict depth fed given was.
+returns-clause-copied c = λ allowed depth fed given was.
     only_written given (take c.feed.result.written c.feed.new.out) c.feed.result.taken c.args.self.now.copier
-    c.feed.new.self (λ read is. (c.feed.ensures.read most read given is).0) strict depth fed _ was
+    c.feed.new.self (λ read is. (c.feed.ensures.read most read given is).0) allowed depth fed _ was

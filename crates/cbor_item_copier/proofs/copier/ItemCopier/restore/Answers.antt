@@ -2,12 +2,12 @@ use Rattle.std.proofs.Common.{sym, ◌∙◌}
 use Rattle.cbor_item_copier.proofs.copier.ItemCopier.restore.Goals as goal
 
 pub returns-then-load-clause-kept : goal.returns-then-load-clause-kept
-returns-then-load-clause-kept c = λ strict depth read written keeps.
-    (c.load.ensures.kept strict depth read written keeps).1
+returns-then-load-clause-kept c = λ allowed depth read written keeps.
+    (c.load.ensures.kept allowed depth read written keeps).1
 
 pub returns-else-load-clause-kept : goal.returns-else-load-clause-kept
-returns-else-load-clause-kept c = λ strict depth read written keeps.
-    let both = sym c.if-load.false ∙ (c.load.ensures.kept strict depth read written keeps).0 in absurd cc
+returns-else-load-clause-kept c = λ allowed depth read written keeps.
+    let both = sym c.if-load.false ∙ (c.load.ensures.kept allowed depth read written keeps).0 in absurd cc
 
 pub returns-then-load-clause-some : goal.returns-then-load-clause-some
 returns-then-load-clause-some c = c.load.ensures.some c.if-load.true

@@ -37,11 +37,11 @@ returns c =
         | inr all ↦ inr (omega (arith, all, room_len, c.requires.room))
       ];
       grown = omega (arith, wrote.grown);
-      copied = λ strict depth fed given was.
+      copied = λ allowed depth fed given was.
           rw (
             ← fed_front fed bytes at len taken all within,
             ← given_front before more k out c.step.new.out c.requires.room refl long (omega (arith, few, room_len))
                 given,
           )
-          (wrote.copied strict depth (fed ++ take at bytes) (given ++ take before out) was);
+          (wrote.copied allowed depth (fed ++ take at bytes) (given ++ take before out) was);
     }

@@ -23,8 +23,8 @@ pieces-preserved c =
       written = search rules;
       long = search rules;
       kept = wrote.kept ∙ drop_later c.pieces.written c.in-Some.end c.pieces.out c.args.out.now wrote.more so_far.kept;
-      copied = λ strict depth fed given was.
-          wrote.copied strict depth fed given (so_far.copied strict depth fed given was);
+      copied = λ allowed depth fed given was.
+          wrote.copied allowed depth fed given (so_far.copied allowed depth fed given was);
       full = search rules;
       grown = omega (arith, wrote.grown, so_far.grown);
       stays = λ off given.
@@ -36,29 +36,29 @@ pieces-preserved c =
     }
 
 pub returns-in_default-clause-tells : goal.returns-in_default-clause-tells
-returns-in_default-clause-tells c = λ strict depth fed given was.
-    c.answer.ensures.tells strict depth (fed ++ take c.pieces.at c.args.bytes.now)
-    (given ++ take c.pieces.written c.pieces.out) (c.pieces.invariant.copied strict depth fed given was)
+returns-in_default-clause-tells c = λ allowed depth fed given was.
+    c.answer.ensures.tells allowed depth (fed ++ take c.pieces.at c.args.bytes.now)
+    (given ++ take c.pieces.written c.pieces.out) (c.pieces.invariant.copied allowed depth fed given was)
 
 pub returns-in-None-clause-tells : goal.returns-in-None-clause-tells
-returns-in-None-clause-tells c = λ strict depth fed given was.
+returns-in-None-clause-tells c = λ allowed depth fed given was.
     let copier = c.pieces.self in
     let stops = c.in-None.ensures in
-    let so_far = c.pieces.invariant.copied strict depth fed given was in
+    let so_far = c.pieces.invariant.copied allowed depth fed given was in
     let now = fed ++ take c.pieces.at c.args.bytes.now in
-    subst (λ (z : List ℕ). Tells strict depth now (given ++ take c.pieces.written z) r.TooLong) (sym stops.same)
-    (tells_long (pending copier) strict depth now (given ++ take c.pieces.written c.pieces.out) (item_spot copier)
+    subst (λ (z : List ℕ). Tells allowed depth now (given ++ take c.pieces.written z) r.TooLong) (sym stops.same)
+    (tells_long (pending copier) allowed depth now (given ++ take c.pieces.written c.pieces.out) (item_spot copier)
     (elements_spot copier) c.in-More.field-0
-    (sym c.in-More.is ∙ c.answer.ensures.answers) so_far (stops.copied strict depth now _ so_far).1)
+    (sym c.in-More.is ∙ c.answer.ensures.answers) so_far (stops.copied allowed depth now _ so_far).1)
 
 pub returns-clause-tells : goal.returns-clause-tells
-returns-clause-tells c = λ strict depth fed given was.
+returns-clause-tells c = λ allowed depth fed given was.
     let bytes = c.args.bytes.now in
     let all : c.pieces.at ≡ length bytes = search rules in
-    subst (λ (n : ℕ). Tells strict depth (fed ++ take n bytes) (given ++ take c.pieces.written c.pieces.out)
+    subst (λ (n : ℕ). Tells allowed depth (fed ++ take n bytes) (given ++ take c.pieces.written c.pieces.out)
     c.answer-2.result) all
-    (c.answer-2.ensures.tells strict depth (fed ++ take c.pieces.at bytes)
-    (given ++ take c.pieces.written c.pieces.out) (c.pieces.invariant.copied strict depth fed given was))
+    (c.answer-2.ensures.tells allowed depth (fed ++ take c.pieces.at bytes)
+    (given ++ take c.pieces.written c.pieces.out) (c.pieces.invariant.copied allowed depth fed given was))
 
 pub returns-in_default-clause-fits : goal.returns-in_default-clause-fits
 returns-in_default-clause-fits c =
@@ -80,7 +80,7 @@ returns-in_default-clause-long c = λ is.
     absurd (never_long (pending c.pieces.self) (item_spot c.pieces.self) (sym c.answer.ensures.answers ∙ is))
 
 pub returns-in_default-clause-cut : goal.returns-in_default-clause-cut
-returns-in_default-clause-cut c = λ strict depth fed given was is.
+returns-in_default-clause-cut c = λ allowed depth fed given was is.
     absurd (never_long (pending c.pieces.self) (item_spot c.pieces.self) (sym c.answer.ensures.answers ∙ is))
 
 pub returns-clause-long : goal.returns-clause-long
@@ -88,16 +88,16 @@ returns-clause-long c = λ is.
     absurd (never_long (pending c.pieces.self) (item_spot c.pieces.self) (sym c.answer-2.ensures.answers ∙ is))
 
 pub returns-clause-cut : goal.returns-clause-cut
-returns-clause-cut c = λ strict depth fed given was is.
+returns-clause-cut c = λ allowed depth fed given was is.
     absurd (never_long (pending c.pieces.self) (item_spot c.pieces.self) (sym c.answer-2.ensures.answers ∙ is))
 
 pub returns-in-None-clause-cut : goal.returns-in-None-clause-cut
-returns-in-None-clause-cut c = λ strict depth fed given was is.
+returns-in-None-clause-cut c = λ allowed depth fed given was is.
     let copier = c.pieces.self in
-    let so_far = c.pieces.invariant.copied strict depth fed given was in
+    let so_far = c.pieces.invariant.copied allowed depth fed given was in
     let now = fed ++ take c.pieces.at c.args.bytes.now in
-    let behind = (c.in-None.ensures.copied strict depth now _ so_far).0 in
-    let same = one_spot strict depth now _ _ behind.checked so_far.checked in
+    let behind = (c.in-None.ensures.copied allowed depth now _ so_far).0 in
+    let same = one_spot allowed depth now _ _ behind.checked so_far.checked in
     let due = more_due (pending copier) (item_spot copier) c.in-More.field-0
     (sym c.in-More.is ∙ c.answer.ensures.answers) in
     ap (λ (z : Spot). is_due z.phase) same ∙ due.1

@@ -1,4 +1,3 @@
-use Rattle.ciborium_ll_grammar.specs.Spellings.{is_shortest}
 use Rattle.cbor_checker.specs.Checking.{HasRead}
 use Rattle.cbor_copier.specs.Copying as copy
 use Rattle.cbor_item_copier.specs.Copying.{HasCopied}
@@ -8,4 +7,4 @@ use Rattle.cbor_item_copier.proofs.copier.ItemCopier.with_spelling.Goals as goal
 pub returns : goal.returns
 unfolding HasRead HasCopied copy.HasCopied copy.pending
 returns c =
-    fresh_fed (is_shortest c.args.spelling) c.args.depth _ _ _ c.with_spelling.ensures c.new.ensures
+    fresh_fed c.args.spelling c.args.depth _ _ _ c.with_spelling.ensures c.new.ensures

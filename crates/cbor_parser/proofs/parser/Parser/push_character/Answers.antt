@@ -34,7 +34,7 @@ returns-then-whole-gt0-clause-some c =
     omega (arith, more, len, c.take_text.ensures.taken)
 
 pub returns-then-whole-gt0-clause-pushed : goal.returns-then-whole-gt0-clause-pushed
-returns-then-whole-gt0-clause-pushed c = λ strict before tokens pushed.
+returns-then-whole-gt0-clause-pushed c = λ allowed before tokens pushed.
     let kept = c.args.self.now.front in
     let piece = c.args.bytes.now in
     let front = c.text_front-behind.result.0.now in
@@ -50,18 +50,18 @@ returns-then-whole-gt0-clause-pushed c = λ strict before tokens pushed.
     c.text_front-behind.ensures.front stuck some in
     let size = ap (λ (k : ℕ). length c.text_front-behind.result.0.now - k) len in
     let long = length-take-le (length front - length kept) piece (omega (arith, part, there)) in
-    pushes_of strict before tokens piece _ _ (length front - length kept)
+    pushes_of allowed before tokens piece _ _ (length front - length kept)
     (e.Text kept (c.args.left - (length front - length kept))) (c.take_text.ensures.taken ∙ size)
     (c.take_text.ensures.event ∙ ap (λ (k : ℕ). e.Text c.args.self.now.front (c.args.left - k)) size)
-    (text_tells strict before tokens c.args.self.now _ piece (take (length front - length kept) piece)
-    (c.args.left - (length front - length kept)) pushed c.take_text.ensures.strict
+    (text_tells allowed before tokens c.args.self.now _ piece (take (length front - length kept) piece)
+    (c.args.left - (length front - length kept)) pushed c.take_text.ensures.spelling
     (omega (arith, c.take_text.ensures.offset, long, size)) c.args.left c.args.place c.requires.phase
     (omega (arith, long, part, most)) whole
     (c.take_text.ensures.point
     ∙ ap (λ (k : ℕ). text_point c.args.self.now.within (c.args.left - k) c.args.place) size))
 
 pub returns-then-not-may_end-clause-pushed : goal.returns-then-not-may_end-clause-pushed
-returns-then-not-may_end-clause-pushed c = λ strict before tokens pushed.
+returns-then-not-may_end-clause-pushed c = λ allowed before tokens pushed.
     let kept = c.args.self.now.front in
     let piece = c.args.bytes.now in
     let front = c.text_front-behind.result.0.now in
@@ -71,7 +71,7 @@ returns-then-not-may_end-clause-pushed c = λ strict before tokens pushed.
     let never : may_end c.text_front-behind.result.1 (c.args.left - c.min-len.result) ≡ false = search rules in
     let most : c.min-len.result ≤ c.args.left = search rules in
     let long = length-take-le c.min-len.result piece there in
-    fault_tells strict before tokens c.args.self.now _ piece (take c.min-len.result piece)
+    fault_tells allowed before tokens c.args.self.now _ piece (take c.min-len.result piece)
     (c.args.left - c.min-len.result) pushed refl (omega (arith, long)) c.args.left c.args.place c.requires.phase
     (omega (arith, long, most))
     (held kept piece c.bytes.result.now front c.text_front-behind.result.1 c.min-len.result there is
@@ -109,7 +109,7 @@ invariant_of-self-2 c =
     }
 
 pub returns-clause-pushed : goal.returns-clause-pushed
-returns-clause-pushed c = λ strict before tokens pushed.
+returns-clause-pushed c = λ allowed before tokens pushed.
     let kept = c.args.self.now.front in
     let piece = c.args.bytes.now in
     let front = c.text_front-behind.result.0.now in
@@ -129,7 +129,7 @@ returns-clause-pushed c = λ strict before tokens pushed.
     let due = some_due (kept ++ take c.min-len.result piece) (c.args.left - c.min-len.result)
     (omega (arith, sum, long, some, c.requires.some, c.min.ensures, c.min-len.ensures)) stays ends in
     let few = kept_few (kept ++ take c.min-len.result piece) (c.args.left - c.min-len.result) stays ends in
-    cut_tells strict before tokens c.args.self.now _ piece (take c.min-len.result piece)
+    cut_tells allowed before tokens c.args.self.now _ piece (take c.min-len.result piece)
     (c.args.left - c.min-len.result) pushed refl (omega (arith, long)) c.args.left c.args.place c.requires.phase
     (omega (arith, long, most))
     (take_all c.min-len.result piece (omega (arith, few, due, sum, long, c.min.ensures, c.min-len.ensures)))

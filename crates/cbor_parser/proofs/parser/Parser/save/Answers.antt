@@ -2,7 +2,7 @@ use Rattle.std.proofs.Common.{refl, rules}
 use Rattle.cbor_parser.proofs.parser.Parser.save.Goals as goal
 
 pub returns-clause-keeps : goal.returns-clause-keeps
-returns-clause-keeps c = λ strict before tokens is.
+returns-clause-keeps c = λ allowed before tokens is.
     record {
       parser = c.args.self.now;
       holds = record {

@@ -8,4 +8,4 @@ invariant_of-result c =
     record { left = refl; fits = rw c.new.ensures (omega arith); stuck = IsStuck-nil; counted = omega arith }
 
 pub returns : goal.returns
-returns c = record { parsed = nothing _ _ c.new.ensures; spelling = c.is_shortest.ensures; offset = refl }
+returns c = record { parsed = nothing _ _ c.new.ensures; spelling = refl; offset = refl }

@@ -1,5 +1,5 @@
 use Rattle.std.proofs.Common.{◌≡◌, ◌+◌, ◌-◌, ◌≤◌, ◌^◌}
-use Rattle.ciborium_ll_decoder.specs.Segments.{string_strict}
+use Rattle.ciborium_ll_decoder.specs.Segments.{string_spelling}
 use Rattle.ciborium_ll_decoder.specs.Decoding.{MovesOn, offset_of}
 use Rattle.ciborium_ll_decoder.specs.Progress.{opens_of}
 use Rattle.ciborium_ll_decoder.proofs.AdvanceLaws.{Reached}
@@ -8,8 +8,8 @@ use Rattle.ciborium_ll_decoder.proofs.seg.Segments.advance.Given as goal
 abbrev pub invariant-titles : goal.invariant-titles
 invariant-titles g l = record {
   same : l.self.decoder.ghost_name ≡ l.initial.self.decoder.ghost_name;
-  mode : string_strict l.self ≡ string_strict l.initial.self;
-  reached : Reached g.R.Read g.P.Parser.kind (string_strict l.initial.self) l.initial.self.progress
+  mode : string_spelling l.self ≡ string_spelling l.initial.self;
+  reached : Reached g.R.Read g.P.Parser.kind (string_spelling l.initial.self) l.initial.self.progress
       l.initial.self.decoder.now
       l.self.progress l.self.decoder.now;
   opens : opens_of l.self.progress + offset_of l.initial.self.decoder.now

@@ -1,11 +1,12 @@
-use Rattle.std.proofs.Common.{rules, true, inr, arith, length, []}
+use Rattle.std.proofs.Common.{rules, inr, arith, length, []}
+use Rattle.ciborium_ll_grammar.specs.declared.spelling.Spelling.TheVariants.{Shortest}
 use Rattle.ciborium_ll_recode.proofs.recode.strict.strict_len.Goals as goal
 
 pub returns-in-Err-clause-none : goal.returns-in-Err-clause-none
 returns-in-Err-clause-none c = λ front.
     let due = c.args.bytes.now in
     let fresh = c.strict-decoder.ensures in
-    let exact = c.recode.ensures.front true due [] (record {
+    let exact = c.recode.ensures.front Shortest due [] (record {
       steady = search rules;
       told = record {
         mode = search rules;

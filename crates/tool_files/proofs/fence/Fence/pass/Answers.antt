@@ -1,6 +1,7 @@
-use Rattle.std.proofs.Common.{◌≡◌, ◌+◌, ◌-◌, ◌++◌, ℕ, List, length, take, drop, false, refl, sym, ap, subst, ◌∙◌, arith}
+use Rattle.std.proofs.Common.{◌≡◌, ◌+◌, ◌-◌, ◌++◌, ℕ, List, length, take, drop, refl, sym, ap, subst, ◌∙◌, arith}
 use Rattle.std.proofs.Common.{append-nil, append_assoc}
 use Rattle.std.proofs.lemmas.List.{length-drop, length-take-le}
+use Rattle.ciborium_ll_grammar.specs.declared.spelling.Spelling.TheVariants.{Any}
 use Rattle.cbor_checker.specs.Reading.{IsMore}
 use Rattle.tool_files.proofs.FenceLaws.{fence_behind, fence_ended, fence_fault, fence_lost, fence_more, none_taken}
 use Rattle.tool_files.proofs.RecodeLaws.{fed_all, fed_more, fed_rest}
@@ -34,9 +35,9 @@ items-preserved-in-Ended g c =
       failures = c.items.invariant.failures;
       fenced = λ items given was. rw (← fed_more given bytes at taken) (fence_ended items (given ++ take at bytes)
           (take taken rest) old _ c.feed-fed.result.progress c.feed-fed.new.self refl
-          (λ part read. (c.feed-fed.ensures.read false old.depth part read).0)
-          (λ part read. (c.feed-fed.ensures.read false old.depth part read).1.tells)
-          (λ part read. none_taken false old.depth part rest _ (c.feed-fed.ensures.read false old.depth part read).1)
+          (λ part read. (c.feed-fed.ensures.read Any old.depth part read).0)
+          (λ part read. (c.feed-fed.ensures.read Any old.depth part read).1.tells)
+          (λ part read. none_taken Any old.depth part rest _ (c.feed-fed.ensures.read Any old.depth part read).1)
           c.in-Ended.field-0 c.in-Ended.is c.new-self.ensures (omega (arith, c.if-self-gt0.true)) (c.items.invariant.fenced items given was));
     }
 
@@ -59,9 +60,9 @@ items-preserved g c =
       failures = c.items.invariant.failures;
       fenced = λ items given was. rw (← fed_more given bytes at taken) (fence_lost items (given ++ take at bytes)
           (take taken rest) old _ c.feed-fed.result.progress c.feed-fed.new.self refl
-          (λ part read. (c.feed-fed.ensures.read false old.depth part read).0)
-          (λ part read. (c.feed-fed.ensures.read false old.depth part read).1.tells)
-          (λ part read. none_taken false old.depth part rest _ (c.feed-fed.ensures.read false old.depth part read).1)
+          (λ part read. (c.feed-fed.ensures.read Any old.depth part read).0)
+          (λ part read. (c.feed-fed.ensures.read Any old.depth part read).1.tells)
+          (λ part read. none_taken Any old.depth part rest _ (c.feed-fed.ensures.read Any old.depth part read).1)
           c.in-TooLong.is refl (c.items.invariant.fenced items given was));
     }
 
@@ -80,9 +81,9 @@ returns-in-More-clause-fenced g c = λ items given was.
     ) in
     rw (← fed_all given bytes (at + taken) all, ← fed_more given bytes at taken) (fence_more items
     (given ++ take at bytes) (take taken rest) old _ c.feed-fed.result.progress c.feed-fed.new.self refl
-    (λ part read. (c.feed-fed.ensures.read false old.depth part read).0)
-    (λ part read. (c.feed-fed.ensures.read false old.depth part read).1.tells)
-    (λ part read. none_taken false old.depth part rest _ (c.feed-fed.ensures.read false old.depth part read).1)
+    (λ part read. (c.feed-fed.ensures.read Any old.depth part read).0)
+    (λ part read. (c.feed-fed.ensures.read Any old.depth part read).1.tells)
+    (λ part read. none_taken Any old.depth part rest _ (c.feed-fed.ensures.read Any old.depth part read).1)
     c.in-More.field-0 c.in-More.is refl refl
     (c.items.invariant.fenced items given was))
 
@@ -99,9 +100,9 @@ returns-in-Fault-clause-fenced g c = λ items given was.
     ∙ append_assoc (given ++ take at bytes) (take taken rest) (drop (at + taken) bytes)) in
     rw whole (fence_fault items
     (given ++ take at bytes) (take taken rest) old _ c.feed-fed.result.progress c.feed-fed.new.self refl
-    (λ part read. (c.feed-fed.ensures.read false old.depth part read).0)
-    (λ part read. (c.feed-fed.ensures.read false old.depth part read).1.tells)
-    (λ part read. none_taken false old.depth part rest _ (c.feed-fed.ensures.read false old.depth part read).1)
+    (λ part read. (c.feed-fed.ensures.read Any old.depth part read).0)
+    (λ part read. (c.feed-fed.ensures.read Any old.depth part read).1.tells)
+    (λ part read. none_taken Any old.depth part rest _ (c.feed-fed.ensures.read Any old.depth part read).1)
     c.in-Fault.field-0 (drop (at + taken) bytes) c.in-Fault.is refl refl
     (c.items.invariant.fenced items given was))
 

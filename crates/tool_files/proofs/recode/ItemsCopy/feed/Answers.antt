@@ -1,6 +1,7 @@
 use Rattle.std.proofs.Common.{rules, refl, sym, ap, ◌∙◌, arith, append-nil, ◌≡◌, ◌+◌, ◌-◌, ◌++◌, ◌≤◌, ◌<◌, ℕ}
-use Rattle.std.proofs.Common.{List, length, take, drop, length-append, false}
+use Rattle.std.proofs.Common.{List, length, take, drop, length-append}
 use Rattle.std.proofs.lemmas.List.{length-drop, length-take-le}
+use Rattle.ciborium_ll_grammar.specs.declared.spelling.Spelling.TheVariants.{Any}
 use Rattle.cbor_item_copier.proofs.PieceLaws.{given_front}
 use Rattle.cbor_item_copier.specs.Reading.{IsRoom}
 use Rattle.tool_files.specs.Recodes.{fault_place, fault_said}
@@ -41,8 +42,8 @@ items-preserved-in-More c =
           let s = c.items.invariant.stands most fed given was long in
           let on = stands_on c.args.self.now.depth _ _ c.items.self.start _ _ c.items.self.copier c.feed-copied.new.self s
           (take taken rest) (take c.feed-copied.result.written new_out) c.feed-copied.result.progress
-          (c.feed-copied.ensures.read false c.args.self.now.depth s.within.part s.within.front s.copied).0
-          (c.feed-copied.ensures.read false c.args.self.now.depth s.within.part s.within.front s.copied).1.tells
+          (c.feed-copied.ensures.read Any c.args.self.now.depth s.within.part s.within.front s.copied).0
+          (c.feed-copied.ensures.read Any c.args.self.now.depth s.within.part s.within.front s.copied).1.tells
           c.feed-copied.ensures.is c.in-More.field-0 c.in-More.is in
           rw (
             ← fed_more fed piece c.items.at taken,
@@ -64,8 +65,8 @@ items-smaller c =
     let s = c.items.invariant.stands after.most after.fed after.given after.stands after.long in
     let on = some_taken c.args.self.now.depth _ _ c.items.self.start _ _ c.items.self.copier c.feed-copied.new.self s
     (take taken rest) (take c.feed-copied.result.written new_out) c.feed-copied.result.progress
-    (c.feed-copied.ensures.read false c.args.self.now.depth s.within.part s.within.front s.copied).0
-    (c.feed-copied.ensures.read false c.args.self.now.depth s.within.part s.within.front s.copied).1.tells
+    (c.feed-copied.ensures.read Any c.args.self.now.depth s.within.part s.within.front s.copied).0
+    (c.feed-copied.ensures.read Any c.args.self.now.depth s.within.part s.within.front s.copied).1.tells
     c.feed-copied.ensures.is c.in-Ended.field-0 c.in-Ended.is in
     omega (
       arith,
@@ -107,8 +108,8 @@ items-preserved c =
           let s = c.items.invariant.stands most fed given was long in
           let on = one_more c.args.self.now.depth _ _ c.items.self.start _ _ c.items.self.copier c.feed-copied.new.self s
           (take taken rest) (take c.feed-copied.result.written new_out) c.feed-copied.result.progress
-          (c.feed-copied.ensures.read false c.args.self.now.depth s.within.part s.within.front s.copied).0
-          (c.feed-copied.ensures.read false c.args.self.now.depth s.within.part s.within.front s.copied).1.tells
+          (c.feed-copied.ensures.read Any c.args.self.now.depth s.within.part s.within.front s.copied).0
+          (c.feed-copied.ensures.read Any c.args.self.now.depth s.within.part s.within.front s.copied).1.tells
           c.feed-copied.ensures.is c.in-Ended.field-0 c.in-Ended.is in
           let are = rw (
             fed_more fed piece c.items.at taken,
@@ -138,8 +139,8 @@ fault_verdict-requires c =
     let s = c.items.invariant.stands after.most after.fed after.given after.stands after.long in
     let on = place_fits c.args.self.now.depth _ _ c.items.self.start _ _ c.items.self.copier c.feed-copied.new.self s
     (take taken rest) (take c.feed-copied.result.written new_out) c.feed-copied.result.progress
-    (c.feed-copied.ensures.read false c.args.self.now.depth s.within.part s.within.front s.copied).0
-    (c.feed-copied.ensures.read false c.args.self.now.depth s.within.part s.within.front s.copied).1.tells
+    (c.feed-copied.ensures.read Any c.args.self.now.depth s.within.part s.within.front s.copied).0
+    (c.feed-copied.ensures.read Any c.args.self.now.depth s.within.part s.within.front s.copied).1.tells
     c.feed-copied.ensures.is c.in-Fault.fault c.in-Fault.is in
     let within : c.items.at + taken ≤ length piece = omega (
       arith,
@@ -172,8 +173,8 @@ returns-in-Fault-clause-feeds c = λ most fed given was long.
     let s = c.items.invariant.stands most fed given was long in
     let on = stop_at c.args.self.now.depth _ _ c.items.self.start _ _ c.items.self.copier c.feed-copied.new.self s
     (take taken rest) (take c.feed-copied.result.written new_out) c.feed-copied.result.progress
-    (c.feed-copied.ensures.read false c.args.self.now.depth s.within.part s.within.front s.copied).0
-    (c.feed-copied.ensures.read false c.args.self.now.depth s.within.part s.within.front s.copied).1.tells
+    (c.feed-copied.ensures.read Any c.args.self.now.depth s.within.part s.within.front s.copied).0
+    (c.feed-copied.ensures.read Any c.args.self.now.depth s.within.part s.within.front s.copied).1.tells
     c.feed-copied.ensures.is c.in-Fault.fault c.fault_verdict.result (fed ++ piece)
     (drop (c.items.at + taken) piece) c.in-Fault.is said whole in
     feeds_stop c.args.self.now.depth most c.items.self.left _ _ _ c.in-Fault.fault c.fault_verdict.result _ _ said
@@ -209,8 +210,8 @@ returns-in-Room-clause-feeds c = λ most fed given was long.
     let s = c.items.invariant.stands most fed given was long in
     let on = too_many c.args.self.now.depth _ _ c.items.self.start _ _ c.items.self.copier c.feed-copied.new.self s
     (take taken rest) (take c.feed-copied.result.written new_out) c.feed-copied.result.progress
-    (c.feed-copied.ensures.read false c.args.self.now.depth s.within.part s.within.front s.copied).0
-    (c.feed-copied.ensures.read false c.args.self.now.depth s.within.part s.within.front s.copied).1.tells
+    (c.feed-copied.ensures.read Any c.args.self.now.depth s.within.part s.within.front s.copied).0
+    (c.feed-copied.ensures.read Any c.args.self.now.depth s.within.part s.within.front s.copied).1.tells
     c.feed-copied.ensures.is (fed ++ piece) (drop (c.items.at + taken) piece) is some whole in
     rw (← given_front c.items.written c.feed-copied.result.written k c.items.out new_out
     (omega (arith, c.items.auto.written-fits)) refl out_len (omega (arith, out_len)) given) on
@@ -244,8 +245,8 @@ returns-then-not-goes_on-clause-feeds c = λ most fed given was long.
     let s = c.items.invariant.stands most fed given was long in
     let on = one_more c.args.self.now.depth _ _ c.items.self.start _ _ c.items.self.copier c.feed-copied.new.self s
     (take taken rest) (take c.feed-copied.result.written new_out) c.feed-copied.result.progress
-    (c.feed-copied.ensures.read false c.args.self.now.depth s.within.part s.within.front s.copied).0
-    (c.feed-copied.ensures.read false c.args.self.now.depth s.within.part s.within.front s.copied).1.tells
+    (c.feed-copied.ensures.read Any c.args.self.now.depth s.within.part s.within.front s.copied).0
+    (c.feed-copied.ensures.read Any c.args.self.now.depth s.within.part s.within.front s.copied).1.tells
     c.feed-copied.ensures.is c.in-Ended.field-0 c.in-Ended.is in
     let are = rw (
       fed_more fed piece c.items.at taken,

@@ -56,7 +56,7 @@ use Rattle.std.specs.Prelude.{Some, None, Ok, Err}
 use Rattle.std.specs.contracts.option.Option as option
 use Rattle.ciborium_ll_decoder.specs.Chunks.{GoesOnTo, IsWhole, SegmentsPull}
 use Rattle.ciborium_ll_decoder.specs.Decoding.{waiting_of}
-use Rattle.ciborium_ll_decoder.specs.Segments.{GivesAgain, string_strict}
+use Rattle.ciborium_ll_decoder.specs.Segments.{GivesAgain, string_spelling}
 use Rattle.ciborium_ll_decoder.specs.Lend.{with_decoder, HoldsDecoder, SegmentsAdvance, advance_answer, lent_reference}
 use Rattle.ciborium_ll_io.specs.declared.io.Read as read
 use Rattle.ciborium_ll_decoder.specs.declared.seg.Parser as parser
@@ -270,11 +270,11 @@ module _ (R P E : RattleType) (reads : read.Ghosts R.Denot E.Denot) (reads_dict 
             × HoldsDecoder answer new × (ends.0 d ≡ with_decoder new d)) × Advanced answer ends.1
 
         abbrev Pulls : Pull.Denot → Type 0
-        Pulls answer = SegmentsPull reads kind.kind (string_strict old) old.progress old.decoder.now answer
+        Pulls answer = SegmentsPull reads kind.kind (string_spelling old) old.progress old.decoder.now answer
 
         -- The promise of `advance` on the string also holds of its decoder.
         goes_on : (result : Advance.Denot) (new : String) → SegmentsAdvance reads kind.kind old result new
-            → GoesOnTo reads kind.kind (string_strict old) old.progress old.decoder.now result new.decoder.now
+            → GoesOnTo reads kind.kind (string_spelling old) old.progress old.decoder.now result new.decoder.now
         goes_on result new is =
             record { after = new.progress; advanced = is.advances; opens = is.opens; moves_on = is.moves_on }
 
@@ -294,7 +294,7 @@ module _ (R P E : RattleType) (reads : read.Ghosts R.Denot E.Denot) (reads_dict 
             fpack ! (Tied answer) (λ ends. follows_if StringIn DecoderIn name (lent_reference answer) ends.0.0 ends.0.1)
             ((with_decoder new, new), (λ d. (new, advanced, holds, refl)), advanced) $
             use0 𝓛 (raw (fact 𝓤 (GivesAgain old.progress answer)))
-            (fact_i 𝓤 _ (emp 𝓤) (given_again reads kind.kind (string_strict old) old.progress old.decoder.now answer
+            (fact_i 𝓤 _ (emp 𝓤) (given_again reads kind.kind (string_spelling old) old.progress old.decoder.now answer
             pulls)) $
             use0 𝓛 (raw (fact 𝓤 (Pulls answer))) (fact_i 𝓤 _ (emp 𝓤) pulls) $ join ! $ move ! (1 ∷ 0 ∷ []) $ join !
             $ done !
@@ -388,7 +388,7 @@ module _ (R P E : RattleType) (reads : read.Ghosts R.Denot E.Denot) (reads_dict 
             (λ b u is_body e is_value.
             let found : SegmentsAdvance reads kind.kind old (Ok (Some b)) new =
             subst (λ r. SegmentsAdvance reads kind.kind old r new) e promised in
-            let none_waits = none_waits_for_body reads kind.kind (string_strict old) old.progress old.decoder.now b
+            let none_waits = none_waits_for_body reads kind.kind (string_spelling old) old.progress old.decoder.now b
             new.progress
             new.decoder.now found.advances in
             let good_body : Good (layout body.the_row) u =
@@ -450,7 +450,7 @@ module _ (R P E : RattleType) (reads : read.Ghosts R.Denot E.Denot) (reads_dict 
             new) (sym stands) found) lent
             (record {
               body = b;
-              goes_on = subst (λ (d : Decoder R.Denot). GoesOnTo reads kind.kind (string_strict old) old.progress
+              goes_on = subst (λ (d : Decoder R.Denot). GoesOnTo reads kind.kind (string_spelling old) old.progress
                   old.decoder.now (Ok (Some b)) d) (sym lent) (goes_on (Ok (Some b)) new found);
               whole = is_whole;
             })))))))))))
