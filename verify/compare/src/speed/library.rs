@@ -184,9 +184,10 @@ pub fn measure(asked: &Asked) -> io::Result<()> {
 fn measure_row(asked: &Asked, row: &Row) -> io::Result<()> {
     let stream = (row.stream)(SIZE);
     let input = Input::new(&stream.bytes)?;
+    let libcbor = format!("{}/libcbor", asked.peers);
     let (beside, program, work) = match row.beside {
         Beside::Crate => ("the Rust crate", &asked.original, row.work),
-        Beside::Libcbor | Beside::LibcborFromC => ("libcbor", &asked.libcbor, row.work),
+        Beside::Libcbor | Beside::LibcborFromC => ("libcbor", &libcbor, row.work),
         Beside::Whole => ("`cll_skip` of the whole", &asked.calls, "whole"),
         Beside::WholeCopy => ("`cll_recode` of the whole", &asked.calls, "recode"),
         Beside::Branches => ("one branch a title", &asked.original, "walk"),

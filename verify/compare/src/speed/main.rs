@@ -1,10 +1,11 @@
-//! Measures how fast this repository's program and library are beside others, and prints two tables.
+//! Measures how fast this repository's program and library are beside others, and prints three tables.
 //!
 //! The programs run by turns, and the least user time of several rounds counts for each.
 
 mod copies;
 mod library;
 mod measure;
+mod peers;
 mod streams;
 
 use compare::command::status_of;
@@ -13,7 +14,15 @@ use std::process::ExitCode;
 
 /// How the program is used.
 const USAGE: &str =
-    "OURS BENCH ORIGINAL CALLS LIBCBOR [--megabytes N] [--rounds N] [--copies] [--library] [--rows TEXT]";
+    "OURS BENCH ORIGINAL CALLS PEERS [--megabytes N] [--rounds N] [--copies] [--library] [--peers] [--rows TEXT]";
+
+/// A table.
+#[derive(Clone, Copy, PartialEq)]
+enum Table {
+    Copies,
+    Library,
+    Peers,
+}
 
 /// What the arguments ask for.
 struct Asked {
@@ -21,12 +30,13 @@ struct Asked {
     bench: String,
     original: String,
     calls: String,
-    libcbor: String,
+    /// The folder of the programs of others.
+    peers: String,
     megabytes: usize,
     rounds: usize,
-    has_copies: bool,
-    has_library: bool,
-    /// The text that the name of each row of the second table has.
+    /// The tables that are asked for, or none if all are.
+    tables: Vec<Table>,
+    /// The text that the name of each row of the second and the third table has.
     rows: String,
 }
 
@@ -37,19 +47,19 @@ fn asked(mut words: impl Iterator<Item = String>) -> Option<Asked> {
         bench: words.next()?,
         original: words.next()?,
         calls: words.next()?,
-        libcbor: words.next()?,
+        peers: words.next()?,
         megabytes: 32,
         rounds: 7,
-        has_copies: true,
-        has_library: true,
+        tables: Vec::new(),
         rows: String::new(),
     };
     while let Some(word) = words.next() {
         match word.as_str() {
             "--megabytes" => asked.megabytes = words.next()?.parse().ok()?,
             "--rounds" => asked.rounds = words.next()?.parse().ok()?,
-            "--copies" => asked.has_library = false,
-            "--library" => asked.has_copies = false,
+            "--copies" => asked.tables.push(Table::Copies),
+            "--library" => asked.tables.push(Table::Library),
+            "--peers" => asked.tables.push(Table::Peers),
             "--rows" => asked.rows = words.next()?,
             _ => return None,
         }
@@ -62,16 +72,19 @@ fn main() -> ExitCode {
     status_of("speed", USAGE, asked, |asked| measure_all(asked).map(|()| true))
 }
 
-/// Prints the tables that were asked for.
+/// Prints the tables that were asked for, with an empty line between them.
 fn measure_all(asked: &Asked) -> io::Result<()> {
-    if asked.has_copies {
-        copies::measure(asked)?;
-    }
-    if asked.has_copies && asked.has_library {
-        println!();
-    }
-    if asked.has_library {
-        library::measure(asked)?;
+    let all = [Table::Copies, Table::Library, Table::Peers];
+    let is_asked = |table: &Table| asked.tables.is_empty() || asked.tables.contains(table);
+    for (place, table) in all.into_iter().filter(is_asked).enumerate() {
+        if place > 0 {
+            println!();
+        }
+        match table {
+            Table::Copies => copies::measure(asked)?,
+            Table::Library => library::measure(asked)?,
+            Table::Peers => peers::measure(asked)?,
+        }
     }
     Ok(())
 }

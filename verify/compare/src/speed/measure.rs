@@ -7,6 +7,10 @@ use std::path::PathBuf;
 use std::process::{Command, Output, Stdio};
 use std::thread;
 
+/// Keeps glibc from the instructions `rep movsb` and `rep stosb`. Valgrind counts one for each byte that they move.
+const NO_REPEATED_STEPS: &str =
+    "glibc.cpu.x86_rep_movsb_threshold=100000000:glibc.cpu.x86_rep_stosb_threshold=100000000";
+
 /// Bytes that are in memory and in a file.
 pub struct Input<'a> {
     bytes: &'a [u8],
@@ -102,6 +106,7 @@ impl Run<'_> {
     pub fn instructions(&self, input: &Input) -> io::Result<Option<f64>> {
         let mut command = Command::new("valgrind");
         command
+            .env("GLIBC_TUNABLES", NO_REPEATED_STEPS)
             .args(["--tool=cachegrind", "--cache-sim=no", "--cachegrind-out-file=/dev/null"])
             .arg(self.program)
             .args(&self.arguments)
@@ -117,14 +122,14 @@ impl Run<'_> {
     }
 }
 
-/// Returns the least seconds of two programs that run by turns, `rounds` times.
-pub fn best_times(
-    sides: &[Run; 2],
+/// Returns the least seconds of programs that run by turns, `rounds` times.
+pub fn best_times<const SIDES: usize>(
+    sides: &[Run; SIDES],
     input: &Input,
     origin: Origin,
     rounds: usize,
-) -> io::Result<[f64; 2]> {
-    let mut best = [f64::INFINITY; 2];
+) -> io::Result<[f64; SIDES]> {
+    let mut best = [f64::INFINITY; SIDES];
     for _ in 0..rounds {
         for (best, side) in best.iter_mut().zip(sides) {
             *best = best.min(side.user_time(input, origin)?);

@@ -151,6 +151,74 @@ pub fn nested_items(size: usize) -> Stream {
     stream
 }
 
+/// Returns such maps as one item, an array.
+pub fn mixed_item(size: usize) -> Stream {
+    let (stream, maps) = mixed_maps(size);
+    array_of(stream, maps)
+}
+
+/// Returns such arrays within arrays as one item.
+pub fn nested_item(size: usize) -> Stream {
+    let stream = nested_items(size);
+    let arrays = stream.count;
+    array_of(stream, arrays)
+}
+
+/// Returns an array of numbers, whose titles have one, two or three bytes.
+pub fn small_numbers(size: usize) -> Stream {
+    let mut stream = Stream::new("numbers of one to three bytes", size);
+    let mut random = Random::new(6);
+    while stream.bytes.len() < size {
+        let number = random.number() >> random.pick(&[48, 56, 60]);
+        stream.title_alone(random.pick(&[0, 1]), number);
+    }
+    let numbers = stream.count;
+    array_of(stream, numbers)
+}
+
+/// Returns an array of numbers of all widths. A third of them have a tag that libcbor takes.
+pub fn tagged_numbers(size: usize) -> Stream {
+    let mut stream = Stream::new("numbers of all widths, and tags", size);
+    let mut random = Random::new(7);
+    let mut items = 0;
+    while stream.bytes.len() < size {
+        if random.one_in(3) {
+            stream.title_alone(6, 1000 + random.below(60000) as u64);
+        }
+        let number = random.number() >> random.pick(&[0, 32, 48, 56, 60]);
+        stream.title_alone(random.pick(&[0, 1]), number);
+        items += 1;
+    }
+    array_of(stream, items)
+}
+
+/// The letters of short texts. They have one byte to four bytes each.
+const LETTERS: &[&str] = &["a", "e", "n", "s", " ", "é", "ß", "ж", "ё", "ő", "語", "字", "€", "😀"];
+
+/// Returns an array of texts of 4 to 40 bytes, whose characters have one byte to four bytes.
+pub fn short_texts(size: usize) -> Stream {
+    let mut stream = Stream::new("short texts of many languages", size);
+    let mut random = Random::new(8);
+    let mut text = String::new();
+    while stream.bytes.len() < size {
+        let length = 4 + random.below(34);
+        text.clear();
+        while text.len() < length {
+            text.push_str(random.pick(LETTERS));
+        }
+        stream.title_alone(3, text.len() as u64);
+        stream.bytes.extend_from_slice(text.as_bytes());
+    }
+    let texts = stream.count;
+    array_of(stream, texts)
+}
+
+/// Returns an array of these items, as one item.
+fn array_of(items: Stream, count: usize) -> Stream {
+    let bytes = [shortest(4, count as u64), items.bytes].concat();
+    Stream { name: items.name, count: items.count + 1, bytes }
+}
+
 /// Adds a small value.
 fn value(stream: &mut Stream, random: &mut Random) {
     match random.below(6) {

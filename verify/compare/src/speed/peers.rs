@@ -1,0 +1,153 @@
+//! Measures the calls for C over items in memory, beside other libraries and beside C by hand.
+
+use crate::measure::{best_times, ratio, speed, Input, Origin, Run};
+use crate::streams::{self, Stream};
+use crate::Asked;
+use compare::command::failed;
+use std::io;
+use std::path::Path;
+
+/// The bytes of an item.
+const SIZE: usize = 1 << 20;
+
+/// A timed run takes at least this many seconds.
+const LEAST: f64 = 0.1;
+
+/// More bytes than an item has, so that it comes in one piece.
+const WHOLE: usize = 1 << 30;
+
+/// A library, as the table names it, and the name of the program that does its works. The first is ours.
+struct Side {
+    name: &'static str,
+    program: &'static str,
+}
+
+/// All others beside ours.
+const OTHERS: &[Side] = &[
+    Side { name: "C by hand", program: "by_hand" },
+    Side { name: "libcbor", program: "libcbor" },
+    Side { name: "serde_cbor", program: "serde" },
+    Side { name: "nlohmann", program: "nlohmann" },
+    Side { name: "fxamacker", program: "fxamacker" },
+];
+
+/// A call of ours, with its work and the works of the others. The works are words of the programs.
+struct Call {
+    name: &'static str,
+    work: &'static str,
+    /// How many bytes a piece has, if the work takes pieces.
+    piece: usize,
+    /// The work of libcbor, and that of all others.
+    others: [&'static str; 2],
+    /// Whether the items have strings.
+    has_strings: bool,
+}
+
+/// All calls.
+const CALLS: &[Call] = &[
+    check("`cll_skip`", "whole", WHOLE),
+    check("`cll_checker_feed`, one piece", "feed", WHOLE),
+    check("`cll_checker_feed`, 1,460 bytes", "feed", 1460),
+    Call { name: "`cll_pull`", work: "pull", piece: 1, others: ["pull", "pull"], has_strings: false },
+    copy("`cll_recode`", "recode"),
+    copy("`cll_copier_feed`, 1,460 bytes", "copy"),
+    copy("`cll_item_copier_feed`, 1,460 bytes", "each"),
+];
+
+/// Returns a call that tests one item.
+const fn check(name: &'static str, work: &'static str, piece: usize) -> Call {
+    Call { name, work, piece, others: ["feed", "check"], has_strings: true }
+}
+
+/// Returns a call that copies one item.
+const fn copy(name: &'static str, work: &'static str) -> Call {
+    Call { name, work, piece: 1460, others: ["recode", "copy"], has_strings: true }
+}
+
+/// The items, and whether there are strings in them.
+const ITEMS: &[(fn(usize) -> Stream, bool)] = &[
+    (streams::mixed_item, true),
+    (streams::nested_item, false),
+    (streams::small_numbers, false),
+    (streams::tagged_numbers, false),
+    (streams::ascii_text, true),
+    (streams::multibyte_text, true),
+    (streams::short_texts, true),
+];
+
+/// Measures all calls, and prints the table.
+pub fn measure(asked: &Asked) -> io::Result<()> {
+    let names: Vec<_> = OTHERS.iter().map(|side| side.name).collect();
+    println!("| call | over | MB/s | {} |", names.join(" | "));
+    println!("|---|---|---|{}", "---|".repeat(names.len()));
+    for call in CALLS.iter().filter(|call| call.name.contains(asked.rows.as_str())) {
+        for (item, has_strings) in ITEMS {
+            if call.has_strings || !has_strings {
+                measure_item(asked, call, &item(SIZE))?;
+            }
+        }
+    }
+    Ok(())
+}
+
+/// What a side takes for its work once.
+struct Taken {
+    seconds: f64,
+    instructions: Option<f64>,
+}
+
+/// Measures a call over an item, and prints its row.
+fn measure_item(asked: &Asked, call: &Call, item: &Stream) -> io::Result<()> {
+    let input = Input::new(&item.bytes)?;
+    let programs = Path::new(asked.peers.as_str());
+    let sum = sum_of(&asked.calls, call.work, call, &input);
+    if sum.is_none() {
+        return Err(failed(&format!("{} over {} fails", call.name, item.name)));
+    }
+    let ours = taken(asked, &asked.calls, call.work, call, &input)?;
+    let mut cells = Vec::new();
+    for side in OTHERS {
+        let work = call.others[usize::from(side.program != "libcbor")];
+        let program = programs.join(side.program).to_string_lossy().into_owned();
+        cells.push(if sum_of(&program, work, call, &input) == sum {
+            let other = taken(asked, &program, work, call, &input)?;
+            let by_time = ratio(Some(ours.seconds), Some(other.seconds));
+            format!("{by_time}, {}", ratio(ours.instructions, other.instructions))
+        } else {
+            // The program is not there, refuses the item, or writes something else.
+            "-".to_string()
+        });
+    }
+    let speed = speed(item.bytes.len(), ours.seconds);
+    println!("| {} | {} | {speed} | {} |", call.name, item.name, cells.join(" | "));
+    Ok(())
+}
+
+/// Returns a program that does a work `rounds` times.
+fn run<'a>(program: &'a str, work: &str, call: &Call, rounds: usize) -> Run<'a> {
+    let words = [work.to_string(), call.piece.to_string(), 1.to_string(), rounds.to_string()];
+    Run { program, arguments: words.to_vec() }
+}
+
+/// Returns what a program prints for a work, unless it fails or prints 0.
+fn sum_of(program: &str, work: &str, call: &Call, input: &Input) -> Option<Vec<u8>> {
+    let sum = run(program, work, call, 1).output(input).ok()?;
+    Some(sum).filter(|sum| sum != b"0\n")
+}
+
+/// Returns the time and the instructions of a work. From the least time of many rounds goes that of none.
+fn taken(asked: &Asked, program: &str, work: &str, call: &Call, input: &Input) -> io::Result<Taken> {
+    let mut rounds = 1;
+    let least = |rounds: usize, turns: usize| {
+        let sides = [run(program, work, call, rounds), run(program, work, call, 0)];
+        best_times(&sides, input, Origin::File, turns).map(|[all, none]| all - none)
+    };
+    while least(rounds, 1)? < LEAST {
+        rounds *= 2;
+    }
+    let counts = [1, 2].map(|rounds| run(program, work, call, rounds).instructions(input).ok().flatten());
+    Ok(Taken {
+        seconds: least(rounds, asked.rounds)? / rounds as f64,
+        instructions: counts[1].zip(counts[0]).map(|(twice, once)| twice - once),
+    })
+}
