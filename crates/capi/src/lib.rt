@@ -72,7 +72,6 @@ pub use self::item_copier::CllItemCopier;
 pub use self::items::CllItems;
 use self::tally::{Tally, copy_counted};
 pub use self::titles::CllTitle;
-use self::titles::is_text;
 use self::wide::title_in;
 pub use cbor_canonical::Span;
 use cbor_skip::{SkipError, skip_item};
@@ -83,7 +82,7 @@ use ciborium_ll_decoder::title::pull_title;
 use ciborium_ll_encoder::enc::push_title;
 use ciborium_ll_grammar::hdr::{Title, shortest};
 use ciborium_ll_grammar::limits::{LONGEST_TITLE, MOST_LEVELS};
-use ciborium_ll_text::state::{State, text_front, text_of};
+use ciborium_ll_text::state::{State, is_text, text_front, text_of};
 
 /// The length of the buffer through which bodies go, in bytes.
 const BUFFER_SIZE: usize = 1024;

@@ -1,8 +1,7 @@
 //! Titles one after the other, each with its place, and the bodies that the call passes over.
 
-ghost use Rattle.std.specs.Prelude.{◌≡◌, ◌≢◌, ◌↔◌, ◌+◌, ◌<◌, ◌≤◌, ◌^◌, ℕ, List, IsTrue, MatchOption, drop, length};
+ghost use Rattle.std.specs.Prelude.{◌≡◌, ◌≢◌, ◌↔◌, ◌+◌, ◌<◌, ◌≤◌, ◌^◌, ℕ, List, MatchOption, drop, length};
 ghost use Rattle.ciborium_ll.specs.Types.Header.{Header as AnyHeader};
-ghost use Rattle.ciborium_ll_text.specs.Text.{IsCharacters};
 ghost use Rattle.capi.specs.declared.answer.CllAnswer.TheVariants as a;
 ghost use Rattle.capi.specs.declared.titles.CllTitle.{CllTitle as AnyTitle};
 ghost use Rattle.capi.specs.Headers.{Says};
@@ -14,7 +13,7 @@ use crate::due::due_behind;
 use crate::header::CllHeader;
 use crate::{pull, skip};
 use ciborium_ll::Spelling;
-use ciborium_ll_text::state::{State, text_front};
+use ciborium_ll_text::state::is_text;
 
 /// A header, and the offsets at which its title starts and ends.
 #[derive(Clone, Copy, Debug, PartialEq, Eq)]
@@ -44,14 +43,6 @@ impl CllTitle {
         self.kind = other.kind;
         self.indefinite = other.indefinite;
     }
-}
-
-/// Returns whether the bytes are UTF-8.
-#[inline(always)]
-pub(crate) fn is_text(bytes: &[u8]) -> bool
-    ensures { IsTrue result ↔ IsCharacters bytes.now }
-{
-    text_front(bytes, 0, State::Between).0.len() == bytes.len()
 }
 
 /// Returns the length of the body that a title of this header has at the start of `rest`, if the body is there whole

@@ -5,7 +5,6 @@ ghost use Rattle.std.specs.Prelude.{MatchResult};
 ghost use Rattle.ciborium_ll_grammar.specs.Strings.{kind_header, IsWritable};
 ghost use Rattle.ciborium_ll_grammar.specs.Title.{IsTitle};
 ghost use Rattle.ciborium_ll_grammar.specs.Elements.{body_spelling};
-ghost use Rattle.ciborium_ll_text.specs.Text.{IsCharacters};
 ghost use Rattle.cbor_canonical.specs.declared.Stop.TheVariants.{Room as NoRoom};
 ghost use Rattle.cbor_canonical.specs.Room.{Grows, LacksRoom};
 ghost use Rattle.cbor_canonical.specs.Runs.{Turns};
@@ -17,7 +16,7 @@ use crate::Stop;
 use crate::title::{insert_title, put_bytes, put_title};
 use ciborium_ll_grammar::hdr::Header;
 use ciborium_ll_grammar::titles::next_title;
-use ciborium_ll_text::state::{State, text_front};
+use ciborium_ll_text::state::is_text;
 
 /// The two kinds of string.
 #[derive(Clone, Copy)]
@@ -61,13 +60,6 @@ impl StringKind {
             _ => None,
         }
     }
-}
-
-/// Returns whether the bytes are UTF-8.
-fn is_text(bytes: &[u8]) -> bool
-    ensures { IsTrue result ↔ IsCharacters bytes.now }
-{
-    text_front(bytes, 0, State::Between).0.len() == bytes.len()
 }
 
 /// Returns whether the bytes may be the body of a string of this kind.

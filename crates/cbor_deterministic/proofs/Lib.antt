@@ -1,4 +1,3 @@
-pub mod TextRuns
 pub mod FrontLaws
 pub mod ItemLaws
 pub mod NoneLaws

@@ -1,13 +1,12 @@
 //! Items whose first bytes tell that they are in the deterministic encoding, and whose bytes are all there.
 
-ghost use Rattle.std.specs.Prelude.{ℕ, ◌≡◌, ◌+◌, ◌-◌, ◌<◌, ◌≤◌, ◌↔◌, IsTrue, length, slice_index, take, true};
+ghost use Rattle.std.specs.Prelude.{ℕ, ◌≡◌, ◌+◌, ◌-◌, ◌<◌, ◌≤◌, length, slice_index, take, true};
 ghost use Rattle.std.specs.Int.{to_be_bytes, w8, w16, w32, w64};
-ghost use Rattle.ciborium_ll_text.specs.Text.{IsCharacters};
 ghost use Rattle.cbor_deterministic.specs.Flat.{AreFlatItems, IsFlatItem, IsLen};
 
 use crate::floats::is_wide_float;
 use ciborium_ll_grammar::hdr::Float;
-use ciborium_ll_text::state::{State, text_front};
+use ciborium_ll_text::state::is_text;
 
 /// The length of an item in bytes, title included, by its first byte, with two lines for each major type. 0 says
 /// nothing.
@@ -45,13 +44,6 @@ fn len_of(first: u8) -> usize
     ensures { IsLen first result }
 {
     usize::from(LENS[first as usize])
-}
-
-/// Returns whether the bytes are UTF-8.
-pub(crate) fn is_text(bytes: &[u8]) -> bool
-    ensures { IsTrue result ↔ IsCharacters bytes.now }
-{
-    text_front(bytes, 0, State::Between).0.len() == bytes.len()
 }
 
 /// Returns the number of one byte.

@@ -10,10 +10,11 @@ ghost use Rattle.cbor_deterministic.specs.Preferred.{IsIndefinite};
 ghost use Rattle.cbor_deterministic.specs.Refusals.{FailsItem, FailsWithin, FailsItems, FailsPairs, FailsOrder};
 ghost use Rattle.cbor_deterministic.specs.Fronts.{InFront, IsOfLength, IsTextOfLength};
 
-use crate::flat::{flat_len, flat_run, is_text};
+use crate::flat::{flat_len, flat_run};
 use crate::title::next_preferred;
 use crate::{Order, Stop, Why};
 use ciborium_ll_grammar::hdr::Header;
+use ciborium_ll_text::state::is_text;
 use std::cmp::Ordering;
 
 /// Returns the rest after a body of `len` bytes.

@@ -1,6 +1,6 @@
 //! Texts that come in chunks (Unicode, Table 3-7).
 
-ghost use Rattle.std.specs.Prelude.{◌≡◌, ◌≢◌, ◌≤◌, length, take, drop};
+ghost use Rattle.std.specs.Prelude.{◌≡◌, ◌≢◌, ◌≤◌, ◌↔◌, IsTrue, length, take, drop};
 ghost use Rattle.ciborium_ll_text.specs.States.{after, may_end, IsLastEnd};
 ghost use Rattle.ciborium_ll_text.specs.Text.{IsCharacters, IsFront};
 ghost use Rattle.ciborium_ll_text.specs.Windows.{after_window};
@@ -194,4 +194,12 @@ pub fn text_front(bytes: &[u8], kept: usize, state: State) -> (&[u8], State)
     let behind = state.run(&bytes[kept..]);
     let len = state.front_len(bytes, kept, behind);
     (&bytes[..len], behind)
+}
+
+/// Returns whether the bytes are UTF-8 (Unicode, Table 3-7).
+#[inline(always)]
+pub fn is_text(bytes: &[u8]) -> bool
+    ensures { IsTrue result ↔ IsCharacters bytes.now }
+{
+    text_front(bytes, 0, State::Between).0.len() == bytes.len()
 }
