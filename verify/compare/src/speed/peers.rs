@@ -16,20 +16,32 @@ const LEAST: f64 = 0.1;
 /// More bytes than an item has, so that it comes in one piece.
 const WHOLE: usize = 1 << 30;
 
-/// A library, as the table names it, and the name of the program that does its works. The first is ours.
+/// A timed run of a program that is compiled while it runs takes at least this many seconds.
+const LEAST_WARM: f64 = 2.0;
+
+/// A library, as the table names it, and the name of the program that does its works.
 struct Side {
     name: &'static str,
     program: &'static str,
+    /// Whether the program is machine code, whose instructions are counted, and writes the same as ours.
+    is_native: bool,
 }
 
 /// All others beside ours.
 const OTHERS: &[Side] = &[
-    Side { name: "C by hand", program: "by_hand" },
-    Side { name: "libcbor", program: "libcbor" },
-    Side { name: "serde_cbor", program: "serde" },
-    Side { name: "nlohmann", program: "nlohmann" },
-    Side { name: "fxamacker", program: "fxamacker" },
+    native("C by hand", "by_hand"),
+    native("libcbor", "libcbor"),
+    native("serde_cbor", "serde"),
+    native("nlohmann", "nlohmann"),
+    native("fxamacker", "fxamacker"),
+    native("Qt", "qt"),
+    Side { name: "Jackson", program: "jackson", is_native: false },
 ];
+
+/// Returns a library whose program is machine code.
+const fn native(name: &'static str, program: &'static str) -> Side {
+    Side { name, program, is_native: true }
+}
 
 /// A call of ours, with its work and the works of the others. The works are words of the programs.
 struct Call {
@@ -104,15 +116,19 @@ fn measure_item(asked: &Asked, call: &Call, item: &Stream) -> io::Result<()> {
     if sum.is_none() {
         return Err(failed(&format!("{} over {} fails", call.name, item.name)));
     }
-    let ours = taken(asked, &asked.calls, call.work, call, &input)?;
+    let ours = taken(asked, &asked.calls, true, call.work, call, &input)?;
     let mut cells = Vec::new();
     for side in OTHERS {
         let work = call.others[usize::from(side.program != "libcbor")];
         let program = programs.join(side.program).to_string_lossy().into_owned();
-        cells.push(if sum_of(&program, work, call, &input) == sum {
-            let other = taken(asked, &program, work, call, &input)?;
+        let found = sum_of(&program, work, call, &input);
+        cells.push(if found == sum || !side.is_native && found.is_some() {
+            let other = taken(asked, &program, side.is_native, work, call, &input)?;
             let by_time = ratio(Some(ours.seconds), Some(other.seconds));
-            format!("{by_time}, {}", ratio(ours.instructions, other.instructions))
+            match other.instructions {
+                Some(_) => format!("{by_time}, {}", ratio(ours.instructions, other.instructions)),
+                None => by_time,
+            }
         } else {
             // The program is not there, refuses the item, or writes something else.
             "-".to_string()
@@ -136,16 +152,18 @@ fn sum_of(program: &str, work: &str, call: &Call, input: &Input) -> Option<Vec<u
 }
 
 /// Returns the time and the instructions of a work. From the least time of many rounds goes that of none.
-fn taken(asked: &Asked, program: &str, work: &str, call: &Call, input: &Input) -> io::Result<Taken> {
+fn taken(asked: &Asked, program: &str, is_native: bool, work: &str, call: &Call, input: &Input) -> io::Result<Taken> {
     let mut rounds = 1;
+    let due = if is_native { LEAST } else { LEAST_WARM };
     let least = |rounds: usize, turns: usize| {
         let sides = [run(program, work, call, rounds), run(program, work, call, 0)];
         best_times(&sides, input, Origin::File, turns).map(|[all, none]| all - none)
     };
-    while least(rounds, 1)? < LEAST {
+    while least(rounds, 1)? < due {
         rounds *= 2;
     }
-    let counts = [1, 2].map(|rounds| run(program, work, call, rounds).instructions(input).ok().flatten());
+    let count = |rounds| is_native.then(|| run(program, work, call, rounds).instructions(input).ok()?).flatten();
+    let counts = [1, 2].map(count);
     Ok(Taken {
         seconds: least(rounds, asked.rounds)? / rounds as f64,
         instructions: counts[1].zip(counts[0]).map(|(twice, once)| twice - once),
