@@ -1,6 +1,6 @@
 -- Tokens are elements, and the first fault after them is the fault of elements.
 use Rattle.std.proofs.Common.{◌≡◌, ℕ, zero, suc, ◌+◌, ◌≤◌, List, [], ◌∷◌, ◌++◌, length}
-use Rattle.std.proofs.Common.{Some, None, drop, take, inl, inr, refl, sym, ap, subst, ◌∙◌, arith}
+use Rattle.std.proofs.Common.{Option, Some, None, drop, take, inl, inr, refl, sym, ap, subst, ◌∙◌, arith}
 use Rattle.std.proofs.Common.{append-nil, append_assoc, length-append}
 use Rattle.ciborium_ll_grammar.specs.declared.spelling.Spelling.{Spelling}
 use Rattle.ciborium_ll_grammar.specs.declared.spelling.Spelling.TheVariants.{Any, Shortest}
@@ -26,18 +26,16 @@ use Rattle.ciborium_ll_text.specs.Text.{IsCharacters}
 use Rattle.ciborium_ll_text.proofs.Lists.{front_of, length_zero}
 use Rattle.ciborium_ll_text.proofs.TextLaws.{IsCharacters-rest}
 use Rattle.std.proofs.lemmas.List.{length-take-le, take-append-drop}
-use Rattle.cbor_parser.specs.declared.phase.Within.{Within}
-use Rattle.cbor_parser.specs.declared.phase.Within.TheVariants as w
-use Rattle.cbor_parser.specs.Phases.{opened, text_place, within_after, within_bytes, within_text}
+use Rattle.cbor_parser.specs.declared.strings.StringKind.{StringKind}
+use Rattle.cbor_parser.specs.declared.strings.StringKind.TheVariants as sk
+use Rattle.cbor_parser.specs.declared.strings.Within.{Within}
+use Rattle.cbor_parser.specs.declared.strings.Within.TheVariants as w
+use Rattle.cbor_parser.specs.Phases.{text_place}
+use Rattle.cbor_parser.specs.Strings.{kind_of, opened, piece_within, within_after, within_open}
 use Rattle.cbor_parser.specs.Parsing.{AreTokens, AtFault, CanEnd, IsBody, IsNoTitleIn, IsParsed, IsTitleIn, Token}
 use Rattle.cbor_parser.specs.Parsing.{body_len}
 use Rattle.cbor_parser.specs.Parsing as parsing
 use Rattle.cbor_parser.specs.Naming.{AreElements, FaultsAt, IsNamed}
-
--- Strings of this kind are open, and this many within the first.
-abbrev within_of : Kind → ℕ → Within
-within_of Bytes more = w.Bytes more
-within_of Text more = w.Text more
 
 -- If only the shortest spelling is taken, the bytes are the shortest spelling of the marks.
 Spelled : Spelling → List ℕ → List Mark → Type 0
@@ -47,10 +45,10 @@ Spelled allowed bytes ms = allowed ≡ Shortest → (bytes ≡ spelling ms) × A
 data Stands (allowed : Spelling) (bytes : List ℕ) (v : Within) : Type 0 where
   between : {n : ℕ} {ms : List Mark} → IsRun n bytes ms → Spelled allowed bytes ms → v ≡ w.Nothing
       → Stands allowed bytes v
-  within : {n : ℕ} {u opens : List ℕ} {ms : List Mark} {bs : List (List ℕ)} (k : Kind) (more : ℕ) → IsRun n u ms
-      → IsInsideAt k (suc more) opens bs → AreWritable k bs → bytes ≡ u ++ opens
-      → Spelled allowed bytes (ms ++ Open k ∷ pieces k bs) → (allowed ≡ Shortest → more ≡ 0) → v ≡ within_of k more
-      → Stands allowed bytes v
+  within : {n : ℕ} {u opens : List ℕ} {ms : List Mark} {bs : List (List ℕ)} (k : StringKind) (more : ℕ) → IsRun n u ms
+      → IsInsideAt (kind_of k) (suc more) opens bs → AreWritable (kind_of k) bs → bytes ≡ u ++ opens
+      → Spelled allowed bytes (ms ++ Open (kind_of k) ∷ pieces (kind_of k) bs) → (allowed ≡ Shortest → more ≡ 0)
+      → v ≡ w.Open k more → Stands allowed bytes v
 
 -- ---- the shortest spelling
 
@@ -133,20 +131,18 @@ module _ (allowed : Spelling) where
       subst (λ (m : ℕ). IsTitle t (kind_header k (Some m))) (sym long) is in
       between (add_element i c ms run (t ++ y) _ (string k (definite title) (writable_one k y text)))
       (spelled_add allowed c (t ++ y) ms _ spelled (spelled_body allowed k t y n taken long).0) to
-  after_elements k c t y n v (within Bytes more run i ok e s o e') is taken long text to = absurd (cc e')
-  after_elements k c t y n v (within Text more run i ok e s o e') is taken long text to = absurd (cc e')
+  after_elements k c t y n v (within j more run i ok e s o e') is taken long text to = absurd (cc e')
 
   -- An open after elements.
-  open_elements : (k : Kind) (c t y : List ℕ) (v : Within) → Stands allowed c w.Nothing → IsTitle t (kind_header k None)
-      → IsTakenTitle allowed t (kind_header k None) → length y ≡ 0 → v ≡ within_of k 0
-      → Stands allowed (c ++ (t ++ y)) v
+  open_elements : (k : StringKind) (c t y : List ℕ) (v : Within) → Stands allowed c w.Nothing
+      → IsTitle t (kind_header (kind_of k) None) → IsTakenTitle allowed t (kind_header (kind_of k) None) → length y ≡ 0
+      → v ≡ w.Open k 0 → Stands allowed (c ++ (t ++ y)) v
   open_elements k c t y v (between {n = i} {ms = ms} run spelled e) is taken long to =
       within k 0 run (one_open {strings = []} is none) tt (sym (no_body c (t ++ []) y long ∙ rw append-nil refl))
       (spelled_same allowed (c ++ t) _ _ _ (no_body c t y long) refl
-      (spelled_add allowed c t ms (Open k ∷ []) spelled (spelled_open allowed k t taken)))
+      (spelled_add allowed c t ms (Open (kind_of k) ∷ []) spelled (spelled_open allowed (kind_of k) t taken)))
       (λ e. refl) to
-  open_elements k c t y v (within Bytes more run i ok e s o e') is taken long to = absurd (cc e')
-  open_elements k c t y v (within Text more run i ok e s o e') is taken long to = absurd (cc e')
+  open_elements k c t y v (within j more run i ok e s o e') is taken long to = absurd (cc e')
 
   -- A title that begins no string, after elements.
   plain_elements : (c t y : List ℕ) (x : Header) (v : Within) → Stands allowed c w.Nothing → IsTitle t x
@@ -155,8 +151,7 @@ module _ (allowed : Spelling) where
       subst (λ (z : List ℕ). Stands allowed z v) (no_body c t y long)
       (between (add_element i c ms run t _ (plain x is no_string))
       (spelled_add allowed c t ms _ spelled (spelled_plain allowed t x taken)) to)
-  plain_elements c t y x v (within Bytes more run i ok e s o e') is taken no_string long to = absurd (cc e')
-  plain_elements c t y x v (within Text more run i ok e s o e') is taken no_string long to = absurd (cc e')
+  plain_elements c t y x v (within j more run i ok e s o e') is taken no_string long to = absurd (cc e')
 
 -- The strings that are open within a string of a kind.
 record Inside (allowed : Spelling) (k : Kind) (more : ℕ) (bytes : List ℕ) : Type 0 where
@@ -172,44 +167,27 @@ record Inside (allowed : Spelling) (k : Kind) (more : ℕ) (bytes : List ℕ) : 
   spelled : Spelled allowed bytes (ms ++ Open k ∷ pieces k bs)
   alone : allowed ≡ Shortest → more ≡ 0
 
-inside_of : (allowed : Spelling) (k : Kind) (more : ℕ) (c : List ℕ) → Stands allowed c (within_of k more)
-    → Inside allowed k more c
-inside_of allowed Bytes more c (between run spelled e) = absurd (cc e)
-inside_of allowed Text more c (between run spelled e) = absurd (cc e)
-inside_of allowed Bytes more c
-    (within {n = n} {u = u} {opens = o} {ms = ms} {bs = bs} Bytes m run i ok e spelled alone e') =
+inside_of : (allowed : Spelling) (k : StringKind) (more : ℕ) (c : List ℕ) → Stands allowed c (w.Open k more)
+    → Inside allowed (kind_of k) more c
+inside_of allowed k more c (between run spelled e) = absurd (cc e)
+inside_of allowed k more c
+    (within {n = n} {u = u} {opens = o} {ms = ms} {bs = bs} j m run i ok e spelled alone e') =
+    let same_kind : j ≡ k = cc e' in
     let same : m ≡ more = cc e' in
-    record {
+    rw (← same_kind, ← same)
+    (record {
       n = n;
       u = u;
       opens = o;
       ms = ms;
       bs = bs;
       run = run;
-      at = subst (λ (j : ℕ). IsInsideAt Bytes (suc j) o bs) same i;
+      at = i;
       ok = ok;
       is = e;
       spelled = spelled;
-      alone = λ yes. sym same ∙ alone yes;
-    }
-inside_of allowed Text more c
-    (within {n = n} {u = u} {opens = o} {ms = ms} {bs = bs} Text m run i ok e spelled alone e') =
-    let same : m ≡ more = cc e' in
-    record {
-      n = n;
-      u = u;
-      opens = o;
-      ms = ms;
-      bs = bs;
-      run = run;
-      at = subst (λ (j : ℕ). IsInsideAt Text (suc j) o bs) same i;
-      ok = ok;
-      is = e;
-      spelled = spelled;
-      alone = λ yes. sym same ∙ alone yes;
-    }
-inside_of allowed Bytes more c (within Text m run i ok e spelled alone e') = absurd (cc e')
-inside_of allowed Text more c (within Bytes m run i ok e spelled alone e') = absurd (cc e')
+      alone = alone;
+    })
 
 -- Marks of one more piece.
 one_piece : (k : Kind) (ms : List Mark) (bs : List (List ℕ)) (y : List ℕ)
@@ -227,14 +205,15 @@ not_shortest e = cc e
 
 module _ (allowed : Spelling) where
   -- A string of a definite length within strings.
-  string_within : (k : Kind) (more : ℕ) (c t y : List ℕ) (n : ℕ) (v : Within) → Stands allowed c (within_of k more)
-      → IsTitle t (kind_header k (Some n)) → IsTakenTitle allowed t (kind_header k (Some n)) → length y ≡ n
-      → IsBody (kind_header k None) y → v ≡ within_of k more → Stands allowed (c ++ (t ++ y)) v
-  string_within k more c t y n v stands is taken long text to =
-      let o = inside_of allowed k more c stands in
+  string_within : (s : StringKind) (more : ℕ) (c t y : List ℕ) (n : ℕ) (v : Within) → Stands allowed c (w.Open s more)
+      → IsTitle t (kind_header (kind_of s) (Some n)) → IsTakenTitle allowed t (kind_header (kind_of s) (Some n))
+      → length y ≡ n → IsBody (kind_header (kind_of s) None) y → v ≡ w.Open s more → Stands allowed (c ++ (t ++ y)) v
+  string_within s more c t y n v stands is taken long text to =
+      let o = inside_of allowed s more c stands in
+      let k = kind_of s in
       let title : IsTitle t (kind_header k (Some (length y))) =
       subst (λ (m : ℕ). IsTitle t (kind_header k (Some m))) (sym long) is in
-      within k more o.run (add_string k (suc more) o.opens (t ++ y) o.bs _ o.at (definite title))
+      within s more o.run (add_string k (suc more) o.opens (t ++ y) o.bs _ o.at (definite title))
       (AreWritable-append k o.bs (y ∷ []) o.ok (writable_one k y text))
       (ap (λ (z : List ℕ). z ++ (t ++ y)) o.is ∙ append_assoc o.u o.opens (t ++ y))
       (spelled_same allowed _ _ _ _ refl (one_piece k o.ms o.bs y)
@@ -242,32 +221,33 @@ module _ (allowed : Spelling) where
       o.alone to
 
   -- An open within strings, unless only the shortest spelling is taken.
-  open_within : (k : Kind) (more : ℕ) (c t y : List ℕ) (v : Within) → (allowed ≡ Shortest → ⊥)
-      → Stands allowed c (within_of k more) → IsTitle t (kind_header k None) → length y ≡ 0 → v ≡ within_of k (suc more)
-      → Stands allowed (c ++ (t ++ y)) v
+  open_within : (k : StringKind) (more : ℕ) (c t y : List ℕ) (v : Within) → (allowed ≡ Shortest → ⊥)
+      → Stands allowed c (w.Open k more) → IsTitle t (kind_header (kind_of k) None) → length y ≡ 0
+      → v ≡ w.Open k (suc more) → Stands allowed (c ++ (t ++ y)) v
   open_within k more c t y v any stands is long to =
       let o = inside_of allowed k more c stands in
-      within k (suc more) o.run (add_open k (suc more) o.opens t o.bs o.at is) o.ok
+      within k (suc more) o.run (add_open (kind_of k) (suc more) o.opens t o.bs o.at is) o.ok
       (sym (no_body c t y long) ∙ (ap (λ (z : List ℕ). z ++ t) o.is ∙ append_assoc o.u o.opens t))
       (not_spelled allowed _ _ any) (λ e. absurd (any e)) to
 
   -- A break within more than one open string.
-  break_within : (k : Kind) (more : ℕ) (c t y : List ℕ) (v : Within) → Stands allowed c (within_of k (suc more))
-      → IsTitle t h.Break → length y ≡ 0 → v ≡ within_of k more → Stands allowed (c ++ (t ++ y)) v
+  break_within : (k : StringKind) (more : ℕ) (c t y : List ℕ) (v : Within) → Stands allowed c (w.Open k (suc more))
+      → IsTitle t h.Break → length y ≡ 0 → v ≡ w.Open k more → Stands allowed (c ++ (t ++ y)) v
   break_within k more c t y v stands is long to =
       let o = inside_of allowed k (suc more) c stands in
       let ff = break_is t h.Break is refl in
       let any : allowed ≡ Shortest → ⊥ = λ e. (let none = o.alone e in omega (arith, none)) in
-      within k more o.run (close_inner k more o.opens o.bs o.at) o.ok
+      within k more o.run (close_inner (kind_of k) more o.opens o.bs o.at) o.ok
       (sym (no_body c t y long) ∙ (ap (λ (z : List ℕ). z ++ t) o.is ∙ (append_assoc o.u o.opens t
       ∙ ap (λ (z : List ℕ). o.u ++ (o.opens ++ z)) ff)))
       (not_spelled allowed _ _ any) (λ e. absurd (any e)) to
 
   -- The break of the only open string.
-  break_last : (k : Kind) (c t y : List ℕ) (v : Within) → Stands allowed c (within_of k 0) → IsTitle t h.Break
+  break_last : (s : StringKind) (c t y : List ℕ) (v : Within) → Stands allowed c (w.Open s 0) → IsTitle t h.Break
       → length y ≡ 0 → v ≡ w.Nothing → Stands allowed (c ++ (t ++ y)) v
-  break_last k c t y v stands is long to =
-      let o = inside_of allowed k 0 c stands in
+  break_last s c t y v stands is long to =
+      let o = inside_of allowed s 0 c stands in
+      let k = kind_of s in
       let ff = break_is t h.Break is refl in
       let whole : o.u ++ (o.opens ++ 0xff ∷ []) ≡ c ++ (t ++ y) =
       ap (λ (z : List ℕ). o.u ++ (o.opens ++ z)) (sym ff) ∙ (sym (append_assoc o.u o.opens t)
@@ -293,52 +273,55 @@ from_nothing : (allowed : Spelling) (c t y : List ℕ) (x : Header) (v : Within)
 from_nothing allowed c t y (h.Bytes (Some n)) v stands is taken to long text =
     after_elements allowed Bytes c t y n v stands is taken long tt (some_one _ v to)
 from_nothing allowed c t y (h.Bytes None) v stands is taken to long text =
-    open_elements allowed Bytes c t y v stands is taken long (some_one _ v to)
+    open_elements allowed sk.Bytes c t y v stands is taken long (some_one _ v to)
 from_nothing allowed c t y (h.Text (Some n)) v stands is taken to long text =
     after_elements allowed Text c t y n v stands is taken long text (some_one _ v to)
 from_nothing allowed c t y (h.Text None) v stands is taken to long text =
-    open_elements allowed Text c t y v stands is taken long (some_one _ v to)
+    open_elements allowed sk.Text c t y v stands is taken long (some_one _ v to)
 from_nothing allowed c t y x v stands is taken to long text =
     plain_elements allowed c t y x v stands is taken tt long (some_one _ v to)
 
-from_bytes : (allowed : Spelling) (more : ℕ) (c t y : List ℕ) (x : Header) (v : Within)
-    → Stands allowed c (w.Bytes more)
-    → IsTitle t x → IsTakenTitle allowed t x → within_bytes allowed more x ≡ Some v → length y ≡ body_len x → IsBody x y
-    → Stands allowed (c ++ (t ++ y)) v
-from_bytes allowed more c t y (h.Bytes (Some n)) v stands is taken to long text =
-    string_within allowed Bytes more c t y n v stands is taken long tt (some_one _ v to)
-from_bytes Shortest more c t y (h.Bytes None) v stands is taken to long text = none_some v to
-from_bytes Any more c t y (h.Bytes None) v stands is taken to long text =
-    open_within Any Bytes more c t y v not_shortest stands is long (some_one _ v to)
-from_bytes allowed zero c t y h.Break v stands is taken to long text =
-    break_last allowed Bytes c t y v stands is long (some_one _ v to)
-from_bytes allowed (suc more) c t y h.Break v stands is taken to long text =
-    break_within allowed Bytes more c t y v stands is long (some_one _ v to)
-from_bytes allowed more c t y x v stands is taken to long text = none_some v to
+-- How many bytes a body has, if its title announces them.
+abbrev or_zero : Option ℕ → ℕ
+or_zero (Some n) = n
+or_zero None = 0
 
-from_text : (allowed : Spelling) (more : ℕ) (c t y : List ℕ) (x : Header) (v : Within) → Stands allowed c (w.Text more)
-    → IsTitle t x → IsTakenTitle allowed t x → within_text allowed more x ≡ Some v → length y ≡ body_len x → IsBody x y
+-- The title of a string within strings of its kind.
+from_piece : (allowed : Spelling) (k : StringKind) (more : ℕ) (c t y : List ℕ) (len : Option ℕ) (v : Within)
+    → Stands allowed c (w.Open k more) → IsTitle t (kind_header (kind_of k) len)
+    → IsTakenTitle allowed t (kind_header (kind_of k) len) → piece_within allowed k more len ≡ Some v
+    → length y ≡ or_zero len → IsBody (kind_header (kind_of k) None) y → Stands allowed (c ++ (t ++ y)) v
+from_piece allowed k more c t y (Some n) v stands is taken to long text =
+    string_within allowed k more c t y n v stands is taken long text (some_one _ v to)
+from_piece Shortest k more c t y None v stands is taken to long text = none_some v to
+from_piece Any k more c t y None v stands is taken to long text =
+    open_within Any k more c t y v not_shortest stands is long (some_one _ v to)
+
+from_open : (allowed : Spelling) (k : StringKind) (more : ℕ) (c t y : List ℕ) (x : Header) (v : Within)
+    → Stands allowed c (w.Open k more) → IsTitle t x → IsTakenTitle allowed t x
+    → within_open allowed k more x ≡ Some v → length y ≡ body_len x → IsBody x y
     → Stands allowed (c ++ (t ++ y)) v
-from_text allowed more c t y (h.Text (Some n)) v stands is taken to long text =
-    string_within allowed Text more c t y n v stands is taken long text (some_one _ v to)
-from_text Shortest more c t y (h.Text None) v stands is taken to long text = none_some v to
-from_text Any more c t y (h.Text None) v stands is taken to long text =
-    open_within Any Text more c t y v not_shortest stands is long (some_one _ v to)
-from_text allowed zero c t y h.Break v stands is taken to long text =
-    break_last allowed Text c t y v stands is long (some_one _ v to)
-from_text allowed (suc more) c t y h.Break v stands is taken to long text =
-    break_within allowed Text more c t y v stands is long (some_one _ v to)
-from_text allowed more c t y x v stands is taken to long text = none_some v to
+from_open allowed sk.Bytes more c t y (h.Bytes None) v stands is taken to long text =
+    from_piece allowed sk.Bytes more c t y None v stands is taken to long tt
+from_open allowed sk.Bytes more c t y (h.Bytes (Some n)) v stands is taken to long text =
+    from_piece allowed sk.Bytes more c t y (Some n) v stands is taken to long tt
+from_open allowed sk.Text more c t y (h.Text None) v stands is taken to long text =
+    from_piece allowed sk.Text more c t y None v stands is taken to long text
+from_open allowed sk.Text more c t y (h.Text (Some n)) v stands is taken to long text =
+    from_piece allowed sk.Text more c t y (Some n) v stands is taken to long text
+from_open allowed k zero c t y h.Break v stands is taken to long text =
+    break_last allowed k c t y v stands is long (some_one _ v to)
+from_open allowed k (suc more) c t y h.Break v stands is taken to long text =
+    break_within allowed k more c t y v stands is long (some_one _ v to)
+from_open allowed k more c t y x v stands is taken to long text = none_some v to
 
 one_more : (allowed : Spelling) (c t y : List ℕ) (x : Header) (u v : Within) → Stands allowed c u
     → IsTitleIn allowed u t x v
     → length y ≡ body_len x → IsBody x y → Stands allowed (c ++ (t ++ y)) v
 one_more allowed c t y x w.Nothing v stands is long text =
     from_nothing allowed c t y x v stands is.is_title is.taken is.stands long text
-one_more allowed c t y x (w.Bytes more) v stands is long text =
-    from_bytes allowed more c t y x v stands is.is_title is.taken is.stands long text
-one_more allowed c t y x (w.Text more) v stands is long text =
-    from_text allowed more c t y x v stands is.is_title is.taken is.stands long text
+one_more allowed c t y x (w.Open k more) v stands is long text =
+    from_open allowed k more c t y x v stands is.is_title is.taken is.stands long text
 
 -- Tokens are elements, or elements and strings that are open.
 tokens_stand : (allowed : Spelling) (d : List ℕ) (ts : List Token) (v : Within) → AreTokens allowed d ts v
@@ -355,16 +338,14 @@ tokens_elements allowed d ts are = by_stand (tokens_stand allowed d ts w.Nothing
   where
     by_stand : Stands allowed d w.Nothing → AreElements d
     by_stand (between {n = n} {ms = ms} run spelled e) = (n, ms, run)
-    by_stand (within Bytes more run i ok e s o e') = absurd (cc e')
-    by_stand (within Text more run i ok e s o e') = absurd (cc e')
+    by_stand (within k more run i ok e s o e') = absurd (cc e')
 
 -- ---- the first fault
 
 -- The place of the next element, or of the next string within a string.
 point_of : Within → Point
 point_of w.Nothing = Due
-point_of (w.Bytes more) = In Bytes
-point_of (w.Text more) = In Text
+point_of (w.Open kind more) = In (kind_of kind)
 
 -- How far a copy comes.
 record Reached (allowed : Spelling) (bytes : List ℕ) (point : Point) : Type 0 where
@@ -383,30 +364,20 @@ reached : (allowed : Spelling) (d : List ℕ) (v : Within) → Stands allowed d 
 unfolding point_of
 reached allowed d w.Nothing (between {n = n} {ms = ms} run spelled e) =
     record { count = suc n; marks = ms; reach = due (omega arith) run; spelled = spelled_out allowed d ms spelled }
-reached allowed d (w.Bytes more) (between run spelled e) = absurd (cc e)
-reached allowed d (w.Text more) (between run spelled e) = absurd (cc e)
-reached allowed d w.Nothing (within Bytes m run i ok e spelled alone e') = absurd (cc e')
-reached allowed d w.Nothing (within Text m run i ok e spelled alone e') = absurd (cc e')
-reached allowed d (w.Text more) (within Bytes m run i ok e spelled alone e') = absurd (cc e')
-reached allowed d (w.Bytes more) (within Text m run i ok e spelled alone e') = absurd (cc e')
-reached allowed d (w.Bytes more)
-    (within {n = n} {u = u} {opens = o} {ms = ms} {bs = bs} Bytes m run i ok e spelled alone e') =
-    record {
+reached allowed d (w.Open j more) (between run spelled e) = absurd (cc e)
+reached allowed d w.Nothing (within k m run i ok e spelled alone e') = absurd (cc e')
+reached allowed d (w.Open j more)
+    (within {n = n} {u = u} {opens = o} {ms = ms} {bs = bs} k m run i ok e spelled alone e') =
+    let same : k ≡ j = cc e' in
+    let point = kind_of k in
+    rw (← same)
+    (record {
       count = suc n;
       marks = _;
-      reach = subst (λ (z : List ℕ). Reaches (suc n) z (ms ++ Open Bytes ∷ pieces Bytes bs) (In Bytes)) (sym e)
-          (inside (omega arith) run (counted Bytes (suc m) o bs i) ok);
-      spelled = spelled_out allowed d (ms ++ Open Bytes ∷ pieces Bytes bs) spelled;
-    }
-reached allowed d (w.Text more)
-    (within {n = n} {u = u} {opens = o} {ms = ms} {bs = bs} Text m run i ok e spelled alone e') =
-    record {
-      count = suc n;
-      marks = _;
-      reach = subst (λ (z : List ℕ). Reaches (suc n) z (ms ++ Open Text ∷ pieces Text bs) (In Text)) (sym e)
-          (inside (omega arith) run (counted Text (suc m) o bs i) ok);
-      spelled = spelled_out allowed d (ms ++ Open Text ∷ pieces Text bs) spelled;
-    }
+      reach = subst (λ (z : List ℕ). Reaches (suc n) z (ms ++ Open point ∷ pieces point bs) (In point)) (sym e)
+          (inside (omega arith) run (counted point (suc m) o bs i) ok);
+      spelled = spelled_out allowed d (ms ++ Open point ∷ pieces point bs) spelled;
+    })
 
 refused_more : (t more : List ℕ) → BeginsRefused t → BeginsRefused (t ++ more)
 refused_more [] more refused = absurd refused
@@ -415,8 +386,7 @@ refused_more (byte ∷ t) more refused = refused
 at_title : (v : Within) → IsAtTitle (point_of v)
 unfolding point_of
 at_title w.Nothing = tt
-at_title (w.Bytes more) = tt
-at_title (w.Text more) = tt
+at_title (w.Open kind more) = tt
 
 -- A fault of elements, at a point that a copy reaches.
 faults_at : (allowed : Spelling) (d ahead : List ℕ) (point : Point) (place : ℕ) (written : List ℕ) (consumed : ℕ)
@@ -440,33 +410,25 @@ faults_at allowed d ahead point place written consumed r fault = (
   refl,
 )
 
-misplaced_bytes : (allowed : Spelling) (more : ℕ) (x : Header) → within_bytes allowed more x ≡ None
-    → IsRefusedIn allowed Bytes x
-misplaced_bytes allowed more (h.Bytes (Some n)) e = absurd (cc e)
-misplaced_bytes Shortest more (h.Bytes None) e = inr (refl, refl)
-misplaced_bytes Any more (h.Bytes None) e = absurd (cc e)
-misplaced_bytes allowed more h.Break e = absurd (cc e)
-misplaced_bytes allowed more x e = inl tt
-
-misplaced_text : (allowed : Spelling) (more : ℕ) (x : Header) → within_text allowed more x ≡ None
-    → IsRefusedIn allowed Text x
-misplaced_text allowed more (h.Text (Some n)) e = absurd (cc e)
-misplaced_text Shortest more (h.Text None) e = inr (refl, refl)
-misplaced_text Any more (h.Text None) e = absurd (cc e)
-misplaced_text allowed more h.Break e = absurd (cc e)
-misplaced_text allowed more x e = inl tt
+misplaced : (allowed : Spelling) (k : StringKind) (more : ℕ) (x : Header) → within_open allowed k more x ≡ None
+    → IsRefusedIn allowed (kind_of k) x
+misplaced allowed sk.Bytes more (h.Bytes (Some n)) e = absurd (cc e)
+misplaced Shortest sk.Bytes more (h.Bytes None) e = inr (refl, refl)
+misplaced Any sk.Bytes more (h.Bytes None) e = absurd (cc e)
+misplaced allowed sk.Text more (h.Text (Some n)) e = absurd (cc e)
+misplaced Shortest sk.Text more (h.Text None) e = inr (refl, refl)
+misplaced Any sk.Text more (h.Text None) e = absurd (cc e)
+misplaced allowed k more h.Break e = absurd (cc e)
+misplaced allowed k more x e = inl tt
 
 -- A title that may not stand there.
 other_title : (allowed : Spelling) (d t more : List ℕ) (v : Within) (x : Header) → Reached allowed d (point_of v)
     → IsTitle t x → within_after allowed v x ≡ None → FaultsAt allowed (d ++ (t ++ more)) (length d)
 unfolding point_of
 other_title allowed d t more w.Nothing x r is e = absurd (cc e)
-other_title allowed d t more (w.Bytes m) x r is e =
-    faults_at allowed d (t ++ more) (In Bytes) (length d) _ _ r
-    (OtherTitle x more is (misplaced_bytes allowed m x e) refl)
-other_title allowed d t more (w.Text m) x r is e =
-    faults_at allowed d (t ++ more) (In Text) (length d) _ _ r
-    (OtherTitle x more is (misplaced_text allowed m x e) refl)
+other_title allowed d t more (w.Open k m) x r is e =
+    faults_at allowed d (t ++ more) (In (kind_of k)) (length d) _ _ r
+    (OtherTitle x more is (misplaced allowed k m x e) refl)
 
 -- Three parts of bytes, and more.
 four : (d t y more : List ℕ) → (d ++ (t ++ y)) ++ more ≡ (d ++ t) ++ (y ++ more)
@@ -476,7 +438,7 @@ due_at : {allowed : Spelling} {d : List ℕ} (r : Reached allowed d (point_of w.
 unfolding point_of
 due_at r = r.reach
 
-in_at : {allowed : Spelling} {d : List ℕ} (m : ℕ) (r : Reached allowed d (point_of (w.Text m)))
+in_at : {allowed : Spelling} {d : List ℕ} (m : ℕ) (r : Reached allowed d (point_of (w.Open sk.Text m)))
     → Reaches r.count d r.marks (In Text)
 unfolding point_of
 in_at m r = r.reach
@@ -499,8 +461,8 @@ at_due : (allowed : Spelling) (d : List ℕ) (r : Reached allowed d (point_of w.
 unfolding point_of
 at_due allowed d r = r.spelled
 
-at_in : (allowed : Spelling) (d : List ℕ) (m : ℕ) (r : Reached allowed d (point_of (w.Text m))) → allowed ≡ Shortest
-    → IsStrictSpelling d r.marks []
+at_in : (allowed : Spelling) (d : List ℕ) (m : ℕ) (r : Reached allowed d (point_of (w.Open sk.Text m)))
+    → allowed ≡ Shortest → IsStrictSpelling d r.marks []
 unfolding point_of
 at_in allowed d m r = r.spelled
 
@@ -577,9 +539,9 @@ text_named allowed d t y carried w.Nothing u len left stands is text stops long 
           })
           (body_fault allowed (d ++ t) y carried more r.marks len left _ text stops long least)),
     )
-text_named allowed d t y carried (w.Bytes m) u len left stands is text stops long = absurd (cc is.stands)
-text_named allowed d t y carried (w.Text m) u len left stands is text stops long =
-    let r = reached allowed d (w.Text m) stands in (
+text_named allowed d t y carried (w.Open sk.Bytes m) u len left stands is text stops long = absurd (cc is.stands)
+text_named allowed d t y carried (w.Open sk.Text m) u len left stands is text stops long =
+    let r = reached allowed d (w.Open sk.Text m) stands in (
       left,
       λ more least.
           rw (four d t (y ++ carried) more)

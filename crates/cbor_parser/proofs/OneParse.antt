@@ -11,9 +11,10 @@ use Rattle.ciborium_ll_grammar.proofs.AffixLaws.{refused_affix, title_not_cut}
 use Rattle.ciborium_ll_text.specs.Text.{IsCharacters, IsStuck}
 use Rattle.ciborium_ll_text.proofs.Lists.{front_of_front, length_zero, same_front}
 use Rattle.ciborium_ll_text.proofs.TextLaws.{IsCharacters-rest}
-use Rattle.cbor_parser.specs.declared.phase.Within.{Within}
-use Rattle.cbor_parser.specs.declared.phase.Within.TheVariants as w
-use Rattle.cbor_parser.specs.Phases.{text_place, within_after}
+use Rattle.cbor_parser.specs.declared.strings.Within.{Within}
+use Rattle.cbor_parser.specs.declared.strings.Within.TheVariants as w
+use Rattle.cbor_parser.specs.Phases.{text_place}
+use Rattle.cbor_parser.specs.Strings.{within_after}
 use Rattle.cbor_parser.specs.Parsing.{AreTokens, AtFault, AtTitle, IsBody}
 use Rattle.cbor_parser.specs.Parsing.{IsNoTitleIn, IsParsed, IsPart, IsTitleIn, Point, Token, at_title, body_len, bytes}
 use Rattle.cbor_parser.specs.Parsing.{in_body, more, no_text, no_title, none, text, token}

@@ -11,8 +11,8 @@ use Rattle.ciborium_ll_text.proofs.TextLaws.{IsCharacters-append, IsCharacters-n
 use Rattle.cbor_parser.specs.declared.event.Event.{Event}
 use Rattle.cbor_parser.specs.declared.event.Event.TheVariants as e
 use Rattle.cbor_parser.specs.declared.parser.Parser.{Parser}
-use Rattle.cbor_parser.specs.declared.phase.Within.{Within}
-use Rattle.cbor_parser.specs.declared.phase.Within.TheVariants as w
+use Rattle.cbor_parser.specs.declared.strings.Within.{Within}
+use Rattle.cbor_parser.specs.declared.strings.Within.TheVariants as w
 use Rattle.cbor_parser.specs.Phases.{bytes_left, phase_after}
 use Rattle.cbor_parser.specs.Parsing.{AreTokens, AtFault, AtTitle, CanEnd, InBytes, InText, IsParsed, IsPart}
 use Rattle.cbor_parser.specs.Parsing.{IsTitleIn, Point, Token, at_title, bytes, in_body, left_of, more, no_text}
@@ -113,10 +113,8 @@ pub enters_of : (allowed : Spelling) (before after : Within) (title : List ℕ) 
     → point ≡ point_at (phase_after before start end header) after []
     → Enters allowed before title start end (title_event before header start) point
 enters_of allowed w.Nothing after title start end header point is e = (after, is, refl, e, refl)
-enters_of allowed (w.Bytes m) after title start end h.Break point is e = (after, is, refl, e, refl)
-enters_of allowed (w.Bytes m) after title start end header point is e = (after, is, refl, e, refl)
-enters_of allowed (w.Text m) after title start end h.Break point is e = (after, is, refl, e, refl)
-enters_of allowed (w.Text m) after title start end header point is e = (after, is, refl, e, refl)
+enters_of allowed (w.Open kind m) after title start end h.Break point is e = (after, is, refl, e, refl)
+enters_of allowed (w.Open kind m) after title start end header point is e = (after, is, refl, e, refl)
 
 -- What an event says of a whole title.
 pub title_tells : (allowed : Spelling) (b part all : List ℕ) (tokens : List Token) (within : Within)

@@ -9,7 +9,7 @@ use Rattle.cbor_parser.specs.declared.event.Event.{Event}
 use Rattle.cbor_parser.specs.declared.event.Event.TheVariants as e
 use Rattle.cbor_parser.specs.declared.event.Pushed.{Pushed}
 use Rattle.cbor_parser.specs.declared.parser.Parser.{Parser}
-use Rattle.cbor_parser.specs.declared.phase.Within.{Within}
+use Rattle.cbor_parser.specs.declared.strings.Within.{Within}
 use Rattle.cbor_parser.specs.declared.phase.Phase.{Phase}
 use Rattle.cbor_parser.specs.declared.phase.Phase.TheVariants as p
 use Rattle.cbor_parser.specs.Phases.{bytes_left, carried_of, has_left}

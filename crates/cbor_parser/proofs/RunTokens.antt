@@ -12,16 +12,17 @@ use Rattle.ciborium_ll_grammar.specs.Elements.{AreWritable, IsElement, IsPlain, 
 use Rattle.ciborium_ll_grammar.proofs.ElementLaws.{AreWritable-left, AreWritable-right}
 use Rattle.ciborium_ll_grammar.proofs.StringLaws.{break_title}
 use Rattle.ciborium_ll_text.proofs.TextLaws.{IsCharacters-nil}
-use Rattle.cbor_parser.specs.declared.phase.Within.{Within}
-use Rattle.cbor_parser.specs.declared.phase.Within.TheVariants as w
-use Rattle.cbor_parser.specs.Phases.{within_after}
+use Rattle.cbor_parser.specs.declared.strings.StringKind.TheVariants as sk
+use Rattle.cbor_parser.specs.declared.strings.Within.{Within}
+use Rattle.cbor_parser.specs.declared.strings.Within.TheVariants as w
+use Rattle.cbor_parser.specs.Strings.{within_after}
 use Rattle.cbor_parser.specs.Parsing.{AreTokens, IsBody, Token, body_len, more, none}
 
 -- This many strings of a kind are open.
 abbrev place_of : Kind → ℕ → Within
 place_of k zero = w.Nothing
-place_of Bytes (suc m) = w.Bytes m
-place_of Text (suc m) = w.Text m
+place_of Bytes (suc m) = w.Open sk.Bytes m
+place_of Text (suc m) = w.Open sk.Text m
 
 -- The bytes are some tokens, and these strings are open after them.
 record Tokens (bytes : List ℕ) (v : Within) : Type 0 where

@@ -4,8 +4,8 @@ use Rattle.ciborium_ll_grammar.specs.declared.hdr.Header.{Header}
 use Rattle.ciborium_ll_grammar.specs.declared.hdr.Header.TheVariants as h
 use Rattle.cbor_parser.specs.declared.event.Event.{Event}
 use Rattle.cbor_parser.specs.declared.event.Event.TheVariants as e
-use Rattle.cbor_parser.specs.declared.phase.Within.{Within}
-use Rattle.cbor_parser.specs.declared.phase.Within.TheVariants as w
+use Rattle.cbor_parser.specs.declared.strings.Within.{Within}
+use Rattle.cbor_parser.specs.declared.strings.Within.TheVariants as w
 
 -- The event of a title of this header within strings: a close, if it is a break (RFC 7049, 2.2.2). After `5f`, the byte
 -- `ff` has the event `Close`.
@@ -17,5 +17,4 @@ within_event header offset = e.Header header offset
 -- a break.
 abbrev pub title_event : Within → Header → ℕ → Event
 title_event w.Nothing header offset = e.Header header offset
-title_event (w.Bytes more) header offset = within_event header offset
-title_event (w.Text more) header offset = within_event header offset
+title_event (w.Open kind more) header offset = within_event header offset

@@ -4,3 +4,5 @@ pub mod Parsing
 pub mod Phases
 pub mod Pushing
 pub mod Saving
+pub mod Strings
+pub mod Titles

@@ -3,14 +3,16 @@ use Rattle.std.specs.Prelude.{◌≡◌, ℕ, ◌+◌, ◌-◌, ◌%◌, ◌<◌
 use Rattle.ciborium_ll_grammar.specs.declared.spelling.Spelling.{Spelling}
 use Rattle.ciborium_ll_grammar.specs.declared.hdr.Header.{Header}
 use Rattle.ciborium_ll_grammar.specs.declared.hdr.Header.TheVariants as h
-use Rattle.ciborium_ll_grammar.specs.Title.{IsTitle, IsCutTitle, BeginsRefused, affix_len}
+use Rattle.ciborium_ll_grammar.specs.Title.{IsTitle, IsCutTitle, affix_len}
 use Rattle.ciborium_ll_grammar.specs.Items.{IsTakenTitle}
 use Rattle.ciborium_ll_text.specs.Text.{IsCharacters, IsStuck}
-use Rattle.cbor_parser.specs.Phases.{text_place, within_after}
+use Rattle.cbor_parser.specs.Phases.{text_place}
+use Rattle.cbor_parser.specs.Strings.{within_after}
+use Rattle.cbor_parser.specs.Titles.{IsNoTakenTitle}
 use Rattle.cbor_parser.specs.declared.phase.Phase.{Phase}
 use Rattle.cbor_parser.specs.declared.phase.Phase.TheVariants as p
-use Rattle.cbor_parser.specs.declared.phase.Within.{Within}
-use Rattle.cbor_parser.specs.declared.phase.Within.TheVariants as w
+use Rattle.cbor_parser.specs.declared.strings.Within.{Within}
+use Rattle.cbor_parser.specs.declared.strings.Within.TheVariants as w
 use Rattle.cbor_parser.specs.declared.parser.Parser.{Parser}
 
 -- ---- titles and bodies
@@ -56,12 +58,6 @@ pub data AreTokens (allowed : Spelling) : List ℕ → List Token → Within →
       → AreTokens allowed (before ++ (title ++ body)) (token header body ∷ tokens) after
 
 -- ---- faults
-
--- The bytes are no title that is taken: none begins so, or it is one that only a reader of any spelling takes (RFC
--- 7049, 2.1 and 3.9). So it is with `1c`, and for `Shortest` with `18 01`.
-abbrev pub IsNoTakenTitle : Spelling → List ℕ → Type 0
-IsNoTakenTitle allowed title =
-    BeginsRefused title ⊎ ((header : Header) × IsTitle title header × (IsTakenTitle allowed title header → ⊥))
 
 -- The bytes are no title that may stand within these strings: none that is taken, or one of another kind (RFC 7049,
 -- 2.2.2). So it is with `1c`, and within `5f` with `61`.

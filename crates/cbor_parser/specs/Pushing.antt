@@ -9,7 +9,7 @@ use Rattle.cbor_parser.specs.declared.event.Event.{Event}
 use Rattle.cbor_parser.specs.declared.event.Event.TheVariants as e
 use Rattle.cbor_parser.specs.declared.event.Pushed.{Pushed}
 use Rattle.cbor_parser.specs.declared.parser.Parser.{Parser}
-use Rattle.cbor_parser.specs.declared.phase.Within.{Within}
+use Rattle.cbor_parser.specs.declared.strings.Within.{Within}
 use Rattle.cbor_parser.specs.Phases.{phase_after, text_left}
 use Rattle.cbor_parser.specs.Events.{title_event}
 use Rattle.cbor_parser.specs.Parsing.{AreTokens, AtFault, IsNoTitleIn, IsParsed, IsTitleIn, Point, Token, due_of}

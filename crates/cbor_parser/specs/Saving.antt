@@ -8,10 +8,10 @@ use Rattle.ciborium_ll_text.specs.Text.{IsStuck}
 use Rattle.cbor_parser.specs.declared.parser.Parser.{Parser}
 use Rattle.cbor_parser.specs.declared.phase.Phase.{Phase}
 use Rattle.cbor_parser.specs.declared.phase.Phase.TheVariants as p
-use Rattle.cbor_parser.specs.declared.phase.Within.{Within}
-use Rattle.cbor_parser.specs.declared.phase.Within.TheVariants as w
+use Rattle.cbor_parser.specs.declared.strings.Within.{Within}
 use Rattle.cbor_parser.specs.declared.saved.Saved.{Saved}
-use Rattle.cbor_parser.specs.Phases.{carried_of, has_left, most_front, open_count}
+use Rattle.cbor_parser.specs.Phases.{carried_of, has_left, most_front}
+use Rattle.cbor_parser.specs.Strings.{open_count, within_in}
 use Rattle.cbor_parser.specs.Parsing.{Token}
 use Rattle.cbor_parser.specs.Pushing.{HasPushed}
 
@@ -27,14 +27,6 @@ phase_in kind number place =
 -- The spelling that is taken, by a number: 0 is any, 1 is the shortest alone, and 2 is neither.
 abbrev pub spelling_in : ℕ → Option Spelling
 spelling_in number = if number == 0 then Some Any else (if number == 1 then Some Shortest else None)
-
--- The strings that are open, by the number of their kind and how many there are within the first. Kind 1 with the
--- number 1 is two open byte strings, as after `5f 5f`.
-abbrev pub within_in : ℕ → ℕ → Option Within
-within_in kind more =
-    if kind == 0 then Some w.Nothing else
-    (if kind == 1 then Some (w.Bytes more) else
-    (if kind == 2 then Some (w.Text more) else None))
 
 -- A parser can have this phase, these bytes of a title or of a character, these open strings and this offset. So it is
 -- with a title that is due, `19 01`, no string and 2, and not with `19 01 00`.

@@ -3,7 +3,7 @@
 ghost use Rattle.std.specs.Prelude.{◌≡◌};
 ghost use Rattle.cbor_parser.specs.Events.{title_event};
 
-use crate::phase::Within;
+use crate::strings::Within;
 use ciborium_ll_grammar::few::Few;
 use ciborium_ll_grammar::hdr::Header;
 
@@ -49,7 +49,7 @@ pub(crate) fn title_event(within: Within, header: Header, offset: usize) -> Even
     ensures { result ≡ title_event within header offset }
 {
     match (within, header) {
-        (Within::Bytes(_) | Within::Text(_), Header::Break) => Event::Close { offset },
+        (Within::Open(_, _), Header::Break) => Event::Close { offset },
         _ => Event::Header { header, offset },
     }
 }

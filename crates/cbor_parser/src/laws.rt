@@ -4,7 +4,7 @@ ghost use Rattle.std.specs.Prelude.{◌≡◌, Bool, ℕ, List, [], false};
 ghost use Rattle.ciborium_ll_grammar.specs.declared.spelling.Spelling.{Spelling};
 ghost use Rattle.ciborium_ll_grammar.specs.declared.spelling.Spelling.TheVariants.{Any};
 ghost use Rattle.cbor_parser.specs.declared.parser.Parser.{Parser};
-ghost use Rattle.cbor_parser.specs.declared.phase.Within.TheVariants as w;
+ghost use Rattle.cbor_parser.specs.declared.strings.Within.TheVariants as w;
 ghost use Rattle.cbor_parser.specs.Naming.{AreElements, IsNamed};
 ghost use Rattle.cbor_parser.specs.Parsing.{AreTokens, AtFault, AtTitle, IsParsed, Point, Token, point_of};
 ghost use Rattle.cbor_parser.specs.Pushing.{HasPushed};

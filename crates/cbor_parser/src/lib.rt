@@ -9,7 +9,8 @@ pub mod laws;
 mod parser;
 mod phase;
 mod saved;
-mod title;
+pub mod strings;
+pub mod title;
 
 pub use self::event::{Event, Pushed};
 pub use self::parser::Parser;

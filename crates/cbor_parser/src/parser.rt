@@ -2,13 +2,15 @@
 
 ghost use Rattle.std.specs.Prelude.{◌≡◌, ◌≤◌, length, true};
 ghost use Rattle.ciborium_ll_text.specs.Text.{IsStuck};
-ghost use Rattle.cbor_parser.specs.Phases.{carried_of, has_left, most_front, open_count};
+ghost use Rattle.cbor_parser.specs.Phases.{carried_of, has_left, most_front};
+ghost use Rattle.cbor_parser.specs.Strings.{open_count};
 ghost use Rattle.ciborium_ll_grammar.specs.declared.spelling.Spelling.{Spelling};
 ghost use Rattle.ciborium_ll_grammar.specs.declared.spelling.Spelling.TheVariants.{Any, Shortest};
 
 use crate::event::{Event, Pushed, title_event};
-use crate::phase::{Phase, Within};
+use crate::phase::Phase;
 use crate::saved::{Saved, is_state, spelling_of};
+use crate::strings::Within;
 use crate::title::{add, taken_header};
 use ciborium_ll_grammar::few::Few;
 use ciborium_ll_grammar::hdr::table::row_of;
@@ -44,7 +46,7 @@ impl Parser {
     ghost use Rattle.cbor_parser.specs.Saving.{Holds, Keeps};
     ghost use Rattle.cbor_parser.specs.declared.event.Event.TheVariants as e;
     ghost use Rattle.cbor_parser.specs.declared.phase.Phase.TheVariants as p;
-    ghost use Rattle.cbor_parser.specs.declared.phase.Within.TheVariants as w;
+    ghost use Rattle.cbor_parser.specs.declared.strings.Within.TheVariants as w;
     ghost use Rattle.ciborium_ll_grammar.specs.Title.{affix_len};
 
     /// Makes a parser that takes any spelling, to which no byte was pushed.

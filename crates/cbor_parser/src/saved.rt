@@ -2,10 +2,11 @@
 
 ghost use Rattle.std.specs.Prelude.{◌≡◌, ◌≤◌, length, true, Some};
 ghost use Rattle.ciborium_ll_text.specs.Text.{IsStuck};
-ghost use Rattle.cbor_parser.specs.Phases.{carried_of, has_left, most_front, open_count};
-ghost use Rattle.cbor_parser.specs.Saving.{IsState, phase_in, spelling_in, within_in};
+ghost use Rattle.cbor_parser.specs.Phases.{carried_of, has_left, most_front};
+ghost use Rattle.cbor_parser.specs.Saving.{IsState, phase_in, spelling_in};
 
-use crate::phase::{Phase, Within};
+use crate::phase::Phase;
+use crate::strings::Within;
 use ciborium_ll_grammar::few::Few;
 use ciborium_ll_grammar::hdr::table::row_of;
 use ciborium_ll_grammar::limits::{LONGEST_TITLE, MOST_KEPT};
@@ -105,42 +106,6 @@ fn is_stuck(bytes: &[u8]) -> bool
     ensures no { IsStuck bytes.now → result ≡ true }
 {
     text_front(bytes, 0, State::Between).0.is_empty()
-}
-
-impl Within {
-    /// Returns the number of the kind, and how many strings are open within the first.
-    pub(crate) fn numbers(self) -> (u8, usize)
-        ensures { within_in result.0 result.1 ≡ Some self }
-    {
-        match self {
-            Within::Nothing => (0, 0),
-            Within::Bytes(more) => (1, more),
-            Within::Text(more) => (2, more),
-        }
-    }
-
-    /// Returns the open strings with these numbers, if there are any.
-    pub(crate) fn of(kind: u8, more: usize) -> Option<Within>
-        ensures { result ≡ within_in kind more }
-    {
-        match kind {
-            0 => Some(Within::Nothing),
-            1 => Some(Within::Bytes(more)),
-            2 => Some(Within::Text(more)),
-            _ => None,
-        }
-    }
-
-    /// Returns whether at least as many bytes came as strings are open.
-    fn is_counted(self, offset: usize) -> bool
-        ensures yes { result ≡ true → open_count self ≤ offset }
-        ensures no { open_count self ≤ offset → result ≡ true }
-    {
-        match self {
-            Within::Nothing => true,
-            Within::Bytes(more) | Within::Text(more) => more < offset,
-        }
-    }
 }
 
 /// Returns which spellings the parser takes: 0 is any, and 1 is the shortest only.

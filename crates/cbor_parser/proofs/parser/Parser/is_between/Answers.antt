@@ -1,6 +1,6 @@
 use Rattle.std.proofs.Common.{◌≡◌, [], rules}
 use Rattle.ciborium_ll_text.proofs.Lists.{length_zero}
-use Rattle.cbor_parser.specs.declared.phase.Within.TheVariants as w
+use Rattle.cbor_parser.specs.declared.strings.Within.TheVariants as w
 use Rattle.cbor_parser.specs.declared.phase.Phase.TheVariants as p
 use Rattle.cbor_parser.proofs.ParseLaws.{whole_tokens}
 use Rattle.cbor_parser.proofs.parser.Parser.is_between.Goals as goal
