@@ -11,12 +11,14 @@ use Rattle.ciborium_ll_grammar.proofs.TitleKinds.{kind_of, Numbered, numbered_ti
 use Rattle.cbor_checker.specs.declared.level.Level.{Level}
 use Rattle.cbor_checker.specs.declared.level.Level.TheVariants as l
 use Rattle.cbor_checker.specs.declared.phase.Phase.TheVariants as p
-use Rattle.cbor_checker.specs.declared.phase.Within.{Within}
-use Rattle.cbor_checker.specs.declared.phase.Within.TheVariants as w
+use Rattle.cbor_parser.specs.declared.strings.Within.{Within}
+use Rattle.cbor_parser.specs.declared.strings.Within.TheVariants as w
 use Rattle.cbor_checker.specs.declared.phase.Fault.{Fault}
 use Rattle.cbor_checker.specs.Blocked.{blocked, is_single}
 use Rattle.cbor_checker.specs.Spots.{Spot, at_phase, settled, string_done, item_done, item_entered, refused}
-use Rattle.cbor_checker.specs.Steps.{SomeTaken, NoneTaken, titled, TitleStep, cut, early, whole, none}
+use Rattle.cbor_parser.specs.Titles.{IsNoTakenTitle, NoneTaken, SomeTaken}
+use Rattle.cbor_parser.proofs.TakenLaws.{none_begins}
+use Rattle.cbor_checker.specs.Steps.{titled, TitleStep, cut, early, whole, none}
 
 -- ---- no fault after a whole item
 
@@ -92,3 +94,7 @@ step_whole spot new header q g e = rw e (whole header q g)
 pub step_none : (spot new : Spot) → NoneTaken spot.allowed spot.front → new ≡ refused (record spot { front = [] })
     → TitleStep spot new
 step_none spot new never e = rw e (none never)
+
+pub step_refused : (spot new : Spot) → IsNoTakenTitle spot.allowed spot.front
+    → new ≡ refused (record spot { front = [] }) → TitleStep spot new
+step_refused spot new never e = step_none spot new (none_begins spot.allowed spot.front never) e

@@ -15,7 +15,7 @@ use Rattle.ciborium_ll_grammar.proofs.ElementLaws.{bytes_writable}
 use Rattle.ciborium_ll_text.proofs.StateLaws.{text_ends, text_from}
 use Rattle.cbor_checker.specs.declared.level.Level.{Level}
 use Rattle.cbor_checker.specs.declared.level.Level.TheVariants as l
-use Rattle.cbor_checker.specs.declared.phase.Within.TheVariants as w
+use Rattle.cbor_parser.specs.declared.strings.Within.TheVariants as w
 use Rattle.cbor_checker.specs.Spots.{Spot, nested, broken, body_placed, item_entered}
 use Rattle.cbor_checker.proofs.Waiting.{Takes, Ends, Breaks, ItemDue, Waits, EndsString}
 use Rattle.cbor_checker.proofs.LevelLaws.{item_of, settles}

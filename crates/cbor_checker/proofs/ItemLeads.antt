@@ -14,7 +14,7 @@ use Rattle.ciborium_ll_grammar.specs.Items.{IsTakenTitle}
 use Rattle.ciborium_ll_grammar.specs.TitleRows.{IsTitleKind}
 use Rattle.ciborium_ll_grammar.proofs.AffixLaws.{announced, refused_affix, title_or_refused}
 use Rattle.cbor_checker.specs.declared.phase.Phase.TheVariants as p
-use Rattle.cbor_checker.specs.declared.phase.Within.{Within}
+use Rattle.cbor_parser.specs.declared.strings.Within.{Within}
 use Rattle.cbor_checker.specs.Blocked.{blocked, is_single}
 use Rattle.cbor_checker.specs.Spots.{Spot, entered, at_phase, body_placed, bytes_due, item_done, item_entered, text_due}
 use Rattle.cbor_checker.specs.Steps.{Leads, TitleStep, stay, go, with_byte, counted_by}
@@ -26,7 +26,7 @@ use Rattle.ciborium_ll_text.specs.declared.state.State.TheVariants as s
 use Rattle.ciborium_ll_text.specs.States.{after}
 use Rattle.ciborium_ll_grammar.specs.declared.hdr.Header.TheVariants as h
 use Rattle.ciborium_ll_grammar.proofs.TitleLaws.{shortest_no_longer}
-use Rattle.cbor_checker.specs.declared.phase.Within.TheVariants as w
+use Rattle.cbor_parser.specs.declared.strings.Within.TheVariants as w
 use Rattle.cbor_checker.specs.Plain.{IsPlainItem, passed}
 
 -- The kind of this first byte allows a title to stand there.

@@ -7,7 +7,7 @@ use Rattle.ciborium_ll_text.specs.States.{may_end}
 use Rattle.cbor_checker.specs.declared.level.Level.{Level}
 use Rattle.cbor_checker.specs.declared.phase.Phase.{Phase}
 use Rattle.cbor_checker.specs.declared.phase.Phase.TheVariants as p
-use Rattle.cbor_checker.specs.declared.phase.Within.{Within}
+use Rattle.cbor_parser.specs.declared.strings.Within.{Within}
 use Rattle.cbor_checker.specs.Spots.{Spot, settled, string_done, bytes_due, entered}
 use Rattle.cbor_checker.specs.Steps.{text_left}
 

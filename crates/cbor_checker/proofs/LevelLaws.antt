@@ -7,8 +7,8 @@ use Rattle.ciborium_ll_grammar.specs.Title.{IsTitle}
 use Rattle.ciborium_ll_grammar.specs.Items.{Completes, AreItems, IsTakenTitle, no_items, more_items, IsItem}
 use Rattle.cbor_checker.specs.declared.level.Level.{Level}
 use Rattle.cbor_checker.specs.declared.level.Level.TheVariants as l
-use Rattle.cbor_checker.specs.declared.phase.Within.{Within}
-use Rattle.cbor_checker.specs.declared.phase.Within.TheVariants as w
+use Rattle.cbor_parser.specs.declared.strings.Within.{Within}
+use Rattle.cbor_parser.specs.declared.strings.Within.TheVariants as w
 use Rattle.cbor_checker.specs.Levels.{closes, next}
 use Rattle.cbor_checker.specs.Spots.{Spot, settled, string_done}
 use Rattle.cbor_checker.proofs.Waiting.{Takes, EndsLevel, Ends, ItemThen, BreakThen, StringDone, Waits}
@@ -101,5 +101,4 @@ settles (f ∷ fs) d spot y clear = settled_next (next f) f fs d spot y refl cle
 pub string_ends : (i : Within) (spot : Spot) (y : List ℕ) → spot.front ≡ [] → i ≡ spot.within
     → Same (StringDone spot.allowed i spot.depth spot.levels y) (Waits (string_done i spot) y)
 string_ends w.Nothing spot y clear same = settles spot.levels spot.depth spot y clear
-string_ends (w.Bytes n) spot y clear same = rw (← same, clear) (λ e. e, λ e. e)
-string_ends (w.Text n) spot y clear same = rw (← same, clear) (λ e. e, λ e. e)
+string_ends (w.Open k n) spot y clear same = rw (← same, clear) (λ e. e, λ e. e)

@@ -8,7 +8,7 @@ use Rattle.ciborium_ll_grammar.specs.declared.spelling.Spelling.{Spelling}
 use Rattle.ciborium_ll_grammar.specs.declared.hdr.Header.{Header}
 use Rattle.ciborium_ll_grammar.specs.Title.{IsTitle, IsCutTitle, AreBytes, numbered, Unsigned, Small}
 use Rattle.ciborium_ll_grammar.specs.Items.{AreItems, IsItem, no_items, more_items, positive}
-use Rattle.ciborium_ll_grammar.specs.Strings.{Kind, Bytes, Text}
+use Rattle.ciborium_ll_grammar.specs.Strings.{Kind}
 use Rattle.ciborium_ll_grammar.proofs.AffixLaws.{AreBytes-append}
 use Rattle.ciborium_ll_text.specs.declared.state.State.{State}
 use Rattle.ciborium_ll_text.specs.declared.state.State.TheVariants as s
@@ -19,10 +19,12 @@ use Rattle.cbor_checker.specs.declared.level.Level.TheVariants as l
 use Rattle.cbor_checker.specs.declared.phase.Phase.{Phase}
 use Rattle.cbor_checker.specs.declared.phase.Phase.TheVariants as p
 use Rattle.cbor_checker.specs.declared.phase.Fault.{Fault}
-use Rattle.cbor_checker.specs.declared.phase.Within.{Within}
-use Rattle.cbor_checker.specs.declared.phase.Within.TheVariants as w
+use Rattle.cbor_parser.specs.declared.strings.Within.{Within}
+use Rattle.cbor_parser.specs.declared.strings.Within.TheVariants as w
 use Rattle.cbor_checker.specs.Spots.{Spot}
-use Rattle.cbor_checker.specs.Steps.{SomeTaken, titled, TitleStep, StepIn, IsFed, fresh, more}
+use Rattle.cbor_parser.specs.Strings.{kind_of}
+use Rattle.cbor_parser.specs.Titles.{SomeTaken}
+use Rattle.cbor_checker.specs.Steps.{titled, TitleStep, StepIn, IsFed, fresh, more}
 use Rattle.cbor_checker.proofs.Waiting.{Takes, Ends, EndsStrings, BodyThen, AnyBody, TextBody, TitleDue, StringDone}
 use Rattle.cbor_checker.proofs.Waiting.{WaitsIn}
 use Rattle.cbor_checker.proofs.StringLaws.{end_back}
@@ -64,8 +66,7 @@ some_strings s k (suc n) Then o =
 
 some_done : (s : Spelling) (i : Within) (d : ℕ) (levels : List Level) → (y : List ℕ) × StringDone s i d levels y
 some_done s w.Nothing d levels = some_ends s levels d
-some_done s (w.Bytes n) d levels = some_strings s Bytes n (Ends s d levels) (some_ends s levels d)
-some_done s (w.Text n) d levels = some_strings s Text n (Ends s d levels) (some_ends s levels d)
+some_done s (w.Open k n) d levels = some_strings s (kind_of k) n (Ends s d levels) (some_ends s levels d)
 
 some_due : (s : Spelling) (i : Within) (d : ℕ) (levels : List Level) → (y : List ℕ) × TitleDue s i d levels y
 some_due s w.Nothing d levels =

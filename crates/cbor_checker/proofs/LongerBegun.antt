@@ -20,7 +20,7 @@ use Rattle.ciborium_ll_grammar.proofs.TitleLaws.{one_title, title_refused}
 use Rattle.ciborium_ll_grammar.proofs.LongerLaws.{minor_as, taken, refused, parts_header, parts_taken, parts_refused}
 use Rattle.ciborium_ll_grammar.proofs.AffixLaws.{title_or_refused, refused_affix, cut_begins, AreBytes-append}
 use Rattle.cbor_checker.specs.Longer.{BeginsLonger}
-use Rattle.cbor_checker.specs.Steps.{SomeTaken, NoneTaken}
+use Rattle.cbor_parser.specs.Titles.{NoneTaken, SomeTaken}
 
 ruleset tests = (arith, nat_tests)
 
@@ -111,35 +111,3 @@ any_some s [] any f some short = absurd (omega (arith, some))
 any_some s (b ∷ a) any f some short =
     let o = cut_begins (b ∷ a) (are_bytes (b ∷ a) f) (omega (arith, short)) in
     rw any (o.byte ∷ o.more, o.header, o.title, tt)
-
--- ---- a whole title
-
--- No title that is taken begins with refused bytes.
-pub refused_none : (s : Spelling) (xs : List ℕ) → BeginsRefused xs → NoneTaken s xs
-refused_none s [] r = absurd r
-refused_none s (b ∷ a) r = λ more title rest header is_title taken e.
-    title_refused title rest header is_title (subst BeginsRefused e r)
-
--- No title that is taken begins with the bytes of longer parts.
-pub parts_none : (major : ℕ) (minor : Minor) (xs : List ℕ) → major < 8 → IsMinor minor
-    → refused_when_strict major minor ≡ true → parts_bytes major minor ≡ xs → NoneTaken Shortest xs
-parts_none major minor xs l p longer is = λ more title rest header is_title taken e.
-    let o = parts_header major minor l p longer in
-    let same = one_title (parts_bytes major minor) title more rest o.0 header o.1 is_title (cc) in
-    parts_refused major minor header l p (rw same.0 is_title) longer (rw same.0 taken)
-
--- The header of parts that are not longer has a title that is taken.
-pub some_taken : (header : Option Header) (s : Spelling) (major : ℕ) (minor : Minor) (xs : List ℕ) → major < 8
-    → IsMinor minor → (s ≡ Shortest → refused_when_strict major minor ≡ false) → parts_bytes major minor ≡ xs
-    → IfSome header (IsTitle (parts_bytes major minor)) → IfSome header (IsTakenTitle s xs)
-some_taken (Some header) Shortest major minor xs l p shortest is title =
-    rw (← is) (parts_taken major minor header l p title (shortest refl))
-some_taken header s major minor xs l p shortest is title = tt
-
--- No title that is taken begins with the bytes of parts without a header.
-pub none_means : (header : Option Header) (s : Spelling) (major : ℕ) (minor : Minor) (xs : List ℕ)
-    → parts_bytes major minor ≡ xs → IfNone header ((minor_code minor ≡ 31) × IsNeverOpen major)
-    → IfNone header (NoneTaken s xs)
-none_means (Some header) s major minor xs is none = tt
-none_means None s major minor xs is none =
-    rw (← is) (refused_none s (parts_bytes major minor) (inr (grind (arith, none))))

@@ -10,7 +10,8 @@ use Rattle.ciborium_ll_grammar.proofs.AffixLaws.{title_not_cut}
 use Rattle.cbor_checker.specs.declared.phase.Phase.{Phase}
 use Rattle.cbor_checker.specs.declared.phase.Phase.TheVariants as p
 use Rattle.cbor_checker.specs.Spots.{Spot, at_phase}
-use Rattle.cbor_checker.specs.Steps.{SomeTaken, NoneTaken, with_byte, titled, TitleStep, cut, early, whole, none, StepIn}
+use Rattle.cbor_parser.specs.Titles.{NoneTaken, SomeTaken}
+use Rattle.cbor_checker.specs.Steps.{with_byte, titled, TitleStep, cut, early, whole, none, StepIn}
 use Rattle.cbor_checker.specs.Steps.{Step, IsFed, fresh, more}
 
 whole_cut : (spot : Spot) (x : Header) → IsTitle spot.front x → IsCutTitle spot.front → ⊥

@@ -24,7 +24,7 @@ use Rattle.ciborium_ll_grammar.specs.TitleRows.{NamesTitle}
 use Rattle.ciborium_ll_grammar.specs.Parts.{refused_when_strict}
 use Rattle.ciborium_ll_grammar.proofs.LongerLaws.{minor_as, taken}
 use Rattle.ciborium_ll_grammar.proofs.TitleKinds.{kind_names, kind_of}
-use Rattle.cbor_checker.specs.declared.phase.Within.TheVariants as w
+use Rattle.cbor_parser.specs.declared.strings.Within.TheVariants as w
 use Rattle.cbor_checker.specs.declared.plain.TheConstants.{LENS, TEXT_LENS}
 use Rattle.cbor_checker.specs.Blocked.{blocked, is_single}
 use Rattle.cbor_checker.specs.Plain.{ArePlain, IsPlainItem, IsSpan, IsValueMajor, more}

@@ -5,7 +5,7 @@ use Rattle.std.proofs.Common.{slice_index}
 use Rattle.std.proofs.lemmas.Bool.Decides.{nat_tests}
 use Rattle.cbor_checker.specs.declared.level.Level.{Level}
 use Rattle.cbor_checker.specs.declared.phase.Phase.TheVariants as p
-use Rattle.cbor_checker.specs.declared.phase.Within.TheVariants as w
+use Rattle.cbor_parser.specs.declared.strings.Within.TheVariants as w
 use Rattle.cbor_checker.specs.Levels.{next}
 use Rattle.cbor_checker.specs.Stack.{innermost, others}
 use Rattle.cbor_checker.specs.Plain.{ArePlain, counted_behind, lowered, more, none, pairs_of, passed, IsNestTitle}

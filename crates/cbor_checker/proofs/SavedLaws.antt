@@ -4,7 +4,7 @@ use Rattle.std.proofs.Common.{◌≡◌, ◌∙◌, ℕ, List, sym, ap}
 use Rattle.cbor_checker.specs.declared.checker.Checker.{Checker}
 use Rattle.cbor_checker.specs.declared.level.Level.{Level}
 use Rattle.cbor_checker.specs.declared.phase.Phase.{Phase}
-use Rattle.cbor_checker.specs.declared.phase.Within.{Within}
+use Rattle.cbor_parser.specs.declared.strings.Within.{Within}
 use Rattle.cbor_checker.specs.declared.progress.End.{End}
 use Rattle.cbor_checker.specs.declared.progress.Progress.{Progress}
 use Rattle.cbor_checker.specs.declared.snapshot.Snapshot.{Snapshot}

@@ -3,7 +3,7 @@ use Rattle.std.proofs.Common.{◌≡◌, ℕ, suc, ◌+◌, ◌-◌, true, List,
 use Rattle.std.proofs.lemmas.Bool.Decides.{nat_tests}
 use Rattle.cbor_checker.specs.declared.level.Level.{Level}
 use Rattle.cbor_checker.specs.declared.phase.Phase.{Phase}
-use Rattle.cbor_checker.specs.declared.phase.Within.{Within}
+use Rattle.cbor_parser.specs.declared.strings.Within.{Within}
 use Rattle.cbor_checker.specs.Levels.{closes, next}
 use Rattle.cbor_checker.specs.Stack.{innermost, others}
 use Rattle.cbor_checker.specs.Spots.{Spot, settled, item_done, item_due, nested, broken}

@@ -7,7 +7,7 @@ use Rattle.ciborium_ll_grammar.specs.declared.hdr.Header.{Header}
 use Rattle.ciborium_ll_grammar.specs.declared.hdr.Header.TheVariants as h
 use Rattle.ciborium_ll_grammar.specs.Title.{IsTitle, IsCutTitle}
 use Rattle.ciborium_ll_grammar.specs.Items.{IsItem, IsTakenTitle, more_items, no_items}
-use Rattle.ciborium_ll_grammar.specs.Strings.{Kind, Bytes, Text, kind_header}
+use Rattle.ciborium_ll_grammar.specs.Strings.{Kind, kind_header}
 use Rattle.ciborium_ll_grammar.proofs.AffixLaws.{title_not_cut}
 use Rattle.ciborium_ll_grammar.proofs.StringLaws.{break_title}
 use Rattle.ciborium_ll_text.specs.declared.state.State.{State}
@@ -18,9 +18,10 @@ use Rattle.std.proofs.lemmas.Bool.{cases_lt}
 use Rattle.cbor_checker.specs.declared.level.Level.{Level}
 use Rattle.cbor_checker.specs.declared.phase.Phase.{Phase}
 use Rattle.cbor_checker.specs.declared.phase.Phase.TheVariants as p
-use Rattle.cbor_checker.specs.declared.phase.Within.{Within}
-use Rattle.cbor_checker.specs.declared.phase.Within.TheVariants as w
+use Rattle.cbor_parser.specs.declared.strings.Within.{Within}
+use Rattle.cbor_parser.specs.declared.strings.Within.TheVariants as w
 use Rattle.cbor_checker.specs.declared.phase.Fault.{Fault}
+use Rattle.cbor_parser.specs.Strings.{kind_of}
 use Rattle.cbor_checker.specs.Spots.{Spot}
 use Rattle.cbor_checker.specs.Steps.{start, titled, with_byte, TitleStep, cut, early, whole, none, text_left, counted}
 use Rattle.cbor_checker.specs.Steps.{StepIn, IsFed, fresh, more}
@@ -66,8 +67,7 @@ pub due_titled : (s : Spelling) (i : Within) (d : ℕ) (levels : List Level) (y 
     → Titled s y
 due_titled s w.Nothing d levels y (inl o) = item_titled s d o.item o.rest y o.is_item o.is
 due_titled s w.Nothing d levels y (inr o) = breaks_titled s d levels y o
-due_titled s (w.Bytes n) d levels y o = first_titled s Bytes _ y (first_of s Bytes _ y o)
-due_titled s (w.Text n) d levels y o = first_titled s Text _ y (first_of s Text _ y o)
+due_titled s (w.Open k n) d levels y o = first_titled s (kind_of k) _ y (first_of s (kind_of k) _ y o)
 
 -- ---- a byte of a title
 

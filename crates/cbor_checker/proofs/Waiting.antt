@@ -2,7 +2,7 @@
 use Rattle.std.proofs.Common.{◌≡◌, ℕ, zero, suc, ◌*◌, ◌⊎◌, true, List, [], ◌∷◌, ◌++◌, length}
 use Rattle.ciborium_ll_grammar.specs.declared.spelling.Spelling.{Spelling}
 use Rattle.ciborium_ll_grammar.specs.Items.{AreItems, AreTakenStrings, IsItem}
-use Rattle.ciborium_ll_grammar.specs.Strings.{Kind, Bytes, Text, AreStrings}
+use Rattle.ciborium_ll_grammar.specs.Strings.{Kind, AreStrings}
 use Rattle.ciborium_ll_grammar.specs.Elements.{AreWritable}
 use Rattle.ciborium_ll_text.specs.declared.state.State.{State}
 use Rattle.ciborium_ll_text.specs.declared.state.State.TheVariants as s
@@ -11,8 +11,9 @@ use Rattle.cbor_checker.specs.declared.level.Level.{Level}
 use Rattle.cbor_checker.specs.declared.level.Level.TheVariants as l
 use Rattle.cbor_checker.specs.declared.phase.Phase.{Phase}
 use Rattle.cbor_checker.specs.declared.phase.Phase.TheVariants as p
-use Rattle.cbor_checker.specs.declared.phase.Within.{Within}
-use Rattle.cbor_checker.specs.declared.phase.Within.TheVariants as w
+use Rattle.cbor_parser.specs.declared.strings.Within.{Within}
+use Rattle.cbor_parser.specs.declared.strings.Within.TheVariants as w
+use Rattle.cbor_parser.specs.Strings.{kind_of}
 use Rattle.cbor_checker.specs.Levels.{closes}
 use Rattle.cbor_checker.specs.Spots.{Spot}
 
@@ -90,14 +91,14 @@ EndsStrings allowed kind more Then bytes = EndsString allowed kind (Behind allow
 -- The bytes that are due if a title is due, for an item or within an open string.
 abbrev pub TitleDue : Spelling → Within → ℕ → List Level → List ℕ → Type 0
 TitleDue allowed w.Nothing depth levels bytes = ItemDue allowed depth levels bytes
-TitleDue allowed (w.Bytes more) depth levels bytes = EndsStrings allowed Bytes more (Ends allowed depth levels) bytes
-TitleDue allowed (w.Text more) depth levels bytes = EndsStrings allowed Text more (Ends allowed depth levels) bytes
+TitleDue allowed (w.Open kind more) depth levels bytes =
+    EndsStrings allowed (kind_of kind) more (Ends allowed depth levels) bytes
 
 -- The bytes that are due after a string of a definite length.
 abbrev pub StringDone : Spelling → Within → ℕ → List Level → List ℕ → Type 0
 StringDone allowed w.Nothing depth levels bytes = Ends allowed depth levels bytes
-StringDone allowed (w.Bytes more) depth levels bytes = EndsStrings allowed Bytes more (Ends allowed depth levels) bytes
-StringDone allowed (w.Text more) depth levels bytes = EndsStrings allowed Text more (Ends allowed depth levels) bytes
+StringDone allowed (w.Open kind more) depth levels bytes =
+    EndsStrings allowed (kind_of kind) more (Ends allowed depth levels) bytes
 
 -- A body of this many bytes, and then come bytes with the property `Then`.
 pub record BodyThen (len : ℕ) (Sound Then : List ℕ → Type 0) (bytes : List ℕ) : Type 0 where

@@ -4,7 +4,7 @@ use Rattle.std.specs.Prelude.{if◌then◌else◌, Option, Some, None}
 use Rattle.ciborium_ll_grammar.specs.declared.spelling.Spelling.{Spelling}
 use Rattle.ciborium_ll_grammar.specs.Title.{affix_len}
 use Rattle.cbor_checker.specs.declared.phase.Phase.TheVariants as p
-use Rattle.cbor_checker.specs.declared.phase.Within.TheVariants as w
+use Rattle.cbor_parser.specs.declared.strings.Within.TheVariants as w
 use Rattle.cbor_checker.specs.declared.level.Level.{Level}
 use Rattle.cbor_checker.specs.declared.level.Level.TheVariants as l
 use Rattle.cbor_checker.specs.Spots.{Spot, item_done, item_due}

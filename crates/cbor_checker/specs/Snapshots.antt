@@ -12,10 +12,9 @@ use Rattle.cbor_checker.specs.declared.level.Level.TheVariants as l
 use Rattle.cbor_checker.specs.declared.phase.Phase.{Phase}
 use Rattle.cbor_checker.specs.declared.phase.Phase.TheVariants as p
 use Rattle.cbor_checker.specs.declared.phase.Fault.TheVariants as f
-use Rattle.cbor_checker.specs.declared.phase.Within.{Within}
-use Rattle.cbor_checker.specs.declared.phase.Within.TheVariants as w
+use Rattle.cbor_parser.specs.declared.strings.Within.{Within}
 use Rattle.cbor_checker.specs.declared.snapshot.Snapshot.{Snapshot}
-use Rattle.cbor_checker.specs.Opens.{open_count}
+use Rattle.cbor_parser.specs.Strings.{open_count, within_in}
 use Rattle.cbor_checker.specs.Spots.{Spot}
 use Rattle.cbor_checker.specs.Telling.{has_left}
 
@@ -39,14 +38,6 @@ phase_in kind number text =
 -- The spelling that is taken, by a number: 0 is any, 1 is the shortest alone, and 2 is neither.
 abbrev pub spelling_in : ℕ → Option Spelling
 spelling_in number = if number == 0 then Some Any else (if number == 1 then Some Shortest else None)
-
--- The strings that are open, by the number of their kind and how many there are within the first. Kind 1 with the
--- number 1 is two open byte strings, as after `5f 5f`.
-abbrev pub within_in : ℕ → ℕ → Option Within
-within_in kind more =
-    if kind == 0 then Some w.Nothing else
-    (if kind == 1 then Some (w.Bytes more) else
-    (if kind == 2 then Some (w.Text more) else None))
 
 -- The rest of a nest after the item that is due in it, by the number of its kind and a count. Kind 1 with the count 2
 -- is two pairs.

@@ -1,8 +1,7 @@
 -- The *spot* that the bytes so far have come to. `proofs/Waiting.antt` says what a spot means: which bytes after it
 -- make a whole item of all. `Tells` says it of the bytes alone.
-use Rattle.std.specs.Prelude.{ℕ, zero, suc, ◌-◌, true, false, List, [], ◌∷◌, Some, None}
+use Rattle.std.specs.Prelude.{ℕ, zero, suc, ◌-◌, true, false, List, [], ◌∷◌, Option, Some, None}
 use Rattle.ciborium_ll_grammar.specs.declared.spelling.Spelling.{Spelling}
-use Rattle.ciborium_ll_grammar.specs.declared.spelling.Spelling.TheVariants.{Any, Shortest}
 use Rattle.ciborium_ll_grammar.specs.declared.hdr.Header.{Header}
 use Rattle.ciborium_ll_grammar.specs.declared.hdr.Header.TheVariants as h
 use Rattle.ciborium_ll_grammar.specs.Title.{title_len}
@@ -10,8 +9,11 @@ use Rattle.ciborium_ll_text.specs.declared.state.State.TheVariants as s
 use Rattle.cbor_checker.specs.declared.level.Level.{Level}
 use Rattle.cbor_checker.specs.declared.phase.Phase.{Phase}
 use Rattle.cbor_checker.specs.declared.phase.Phase.TheVariants as p
-use Rattle.cbor_checker.specs.declared.phase.Within.{Within}
-use Rattle.cbor_checker.specs.declared.phase.Within.TheVariants as w
+use Rattle.cbor_parser.specs.declared.strings.StringKind.{StringKind}
+use Rattle.cbor_parser.specs.declared.strings.StringKind.TheVariants as k
+use Rattle.cbor_parser.specs.declared.strings.Within.{Within}
+use Rattle.cbor_parser.specs.declared.strings.Within.TheVariants as w
+use Rattle.cbor_parser.specs.Strings.{within_after}
 use Rattle.cbor_checker.specs.declared.phase.Fault.TheVariants as f
 use Rattle.cbor_checker.specs.Levels.{closes, contents, next}
 
@@ -53,8 +55,7 @@ item_done spot = settled spot.depth spot.levels spot
 -- as `41 01` in `5f 41 01 ff`.
 abbrev pub string_done : Within → Spot → Spot
 string_done w.Nothing spot = item_done spot
-string_done (w.Bytes more) spot = at_phase p.Title spot
-string_done (w.Text more) spot = at_phase p.Title spot
+string_done (w.Open kind more) spot = at_phase p.Title spot
 
 -- This many bytes of a byte string are due; with 0, as after `40`, the string is done (RFC 7049, 2.1).
 abbrev pub bytes_due : ℕ → Spot → Spot
@@ -66,9 +67,9 @@ abbrev pub text_due : ℕ → Spot → Spot
 text_due zero spot = string_done spot.within spot
 text_due (suc len) spot = at_phase (p.Text (suc len) s.Between) spot
 
--- Strings are open, and a piece of them or a break is due, as after `5f` (RFC 7049, 2.2.2).
-abbrev pub string_open : Within → Spot → Spot
-string_open within spot = record spot { phase = p.Title; within = within }
+-- A string of this kind is open, and a piece of it or a break is due, as after `5f` (RFC 7049, 2.2.2).
+abbrev pub string_open : StringKind → Spot → Spot
+string_open kind spot = record spot { phase = p.Title; within = w.Open kind zero }
 
 -- The spot after the title of a nest (RFC 7049, 2.1 and 2.4). Without a level left there is a fault, and an empty nest,
 -- as `80`, is done.
@@ -97,46 +98,32 @@ body_placed len spot = record spot { place = spot.offset - title_len (h.Text (So
 -- The spot after the whole title of an item (RFC 7049, 2.1 to 2.4): `01` is a whole item, and `42` begins a body.
 abbrev pub item_entered : Header → Spot → Spot
 item_entered (h.Bytes (Some len)) spot = bytes_due len spot
-item_entered (h.Bytes None) spot = string_open (w.Bytes zero) spot
+item_entered (h.Bytes None) spot = string_open k.Bytes spot
 item_entered (h.Text (Some len)) spot =
     text_due len (body_placed len spot)
-item_entered (h.Text None) spot = string_open (w.Text zero) spot
+item_entered (h.Text None) spot = string_open k.Text spot
 item_entered (h.Tag number) spot = nested spot.depth (contents (h.Tag number)) spot
 item_entered (h.Array count) spot = nested spot.depth (contents (h.Array count)) spot
 item_entered (h.Map count) spot = nested spot.depth (contents (h.Map count)) spot
 item_entered h.Break spot = broken spot.levels spot
 item_entered header spot = item_done spot
 
--- The spot after a break within strings, with this many more open (RFC 7049, 2.2.2). The first break of `5f 5f ff ff`
--- leaves one string open.
-abbrev pub string_closed : (ℕ → Within) → ℕ → Spot → Spot
-string_closed within zero spot = item_done spot
-string_closed within (suc more) spot = string_open (within more) spot
+-- The spot after the title of a string, or of a break, that may stand within strings (RFC 7049, 2.2.2): `41` begins a
+-- body, and after `5f` a title is due.
+abbrev pub piece_entered : Header → Spot → Spot
+piece_entered (h.Bytes (Some len)) spot = bytes_due len spot
+piece_entered (h.Text (Some len)) spot = text_due len spot
+piece_entered header spot = at_phase p.Title spot
 
--- The spot after an open within an open string of its kind (RFC 7049, 2.2.2), as the second byte of `5f 5f`. The
--- shortest spelling has none (3.9).
-abbrev pub open_entered : Spelling → Within → Spot → Spot
-open_entered Shortest within spot = refused spot
-open_entered Any within spot = string_open within spot
-
--- The spot after a whole title within a byte string (RFC 7049, 2.2.2): `41` begins a piece, `ff` ends the string, and
--- `61` is a fault.
-abbrev pub bytes_entered : Header → ℕ → Spot → Spot
-bytes_entered (h.Bytes (Some len)) more spot = bytes_due len spot
-bytes_entered (h.Bytes None) more spot = open_entered spot.allowed (w.Bytes (suc more)) spot
-bytes_entered h.Break more spot = string_closed w.Bytes more spot
-bytes_entered header more spot = refused spot
-
--- The spot after a whole title within a text (RFC 7049, 2.2.2): `61` begins a piece, `ff` ends the string, and `41` is
--- a fault.
-abbrev pub text_entered : Header → ℕ → Spot → Spot
-text_entered (h.Text (Some len)) more spot = text_due len spot
-text_entered (h.Text None) more spot = open_entered spot.allowed (w.Text (suc more)) spot
-text_entered h.Break more spot = string_closed w.Text more spot
-text_entered header more spot = refused spot
+-- The spot after a whole title within strings, by the strings that are open after it (RFC 7049, 2.2.2). Within `5f`,
+-- `41` begins a piece, `ff` ends the string, and `61` is a fault.
+abbrev pub within_entered : Option Within → Header → Spot → Spot
+within_entered None header spot = refused spot
+within_entered (Some w.Nothing) header spot = item_done spot
+within_entered (Some (w.Open kind more)) header spot = piece_entered header (record spot { within = w.Open kind more })
 
 -- The spot after a whole title, of an item or within an open string. `01` is an item by itself, and a fault after `5f`.
 abbrev pub entered : Within → Header → Spot → Spot
 entered w.Nothing header spot = item_entered header spot
-entered (w.Bytes more) header spot = bytes_entered header more spot
-entered (w.Text more) header spot = text_entered header more spot
+entered (w.Open kind more) header spot =
+    within_entered (within_after spot.allowed (w.Open kind more) header) header spot

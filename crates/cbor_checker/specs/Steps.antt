@@ -8,7 +8,8 @@ use Rattle.ciborium_ll_text.specs.declared.state.State.{State}
 use Rattle.ciborium_ll_text.specs.States.{after_byte, may_end}
 use Rattle.cbor_checker.specs.declared.phase.Phase.{Phase}
 use Rattle.cbor_checker.specs.declared.phase.Phase.TheVariants as p
-use Rattle.cbor_checker.specs.declared.phase.Within.TheVariants as w
+use Rattle.cbor_parser.specs.declared.strings.Within.TheVariants as w
+use Rattle.cbor_parser.specs.Titles.{NoneTaken, SomeTaken}
 use Rattle.cbor_checker.specs.declared.phase.Fault.{Fault}
 use Rattle.cbor_checker.specs.Spots.{Spot, at_phase, bytes_due, entered, refused, string_done}
 
@@ -41,18 +42,6 @@ with_byte byte spot = record spot {
 -- The spot after a whole title: after `42`, two bytes of a body are due, and the front is empty.
 abbrev pub titled : Header → Spot → Spot
 titled header spot = entered spot.within header (record spot { front = [] })
-
--- A title that begins with these bytes is taken, as `19 01 00` for `19` (RFC 7049, 2.1 and 3.9).
-abbrev pub SomeTaken : Spelling → List ℕ → Type 0
-SomeTaken allowed front =
-    (more : List ℕ) × (header : Header) × IsTitle (front ++ more) header × IsTakenTitle allowed (front ++ more) header
-
--- Nothing that begins with these bytes begins with a title that is taken (RFC 7049, 2.1 and 3.9). So it is with `1c`,
--- and for `Shortest` with `19 00`.
-abbrev pub NoneTaken : Spelling → List ℕ → Type 0
-NoneTaken allowed front =
-    (more title rest : List ℕ) (header : Header) → IsTitle title header → IsTakenTitle allowed title header
-    → front ++ more ≡ title ++ rest → ⊥
 
 -- The spot that a byte of a title leads to. The byte stands at the end of the front (RFC 7049, 2.1). If an item is due,
 -- `01` leads past it, and `1c` to a fault.

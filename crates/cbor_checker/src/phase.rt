@@ -1,7 +1,7 @@
 //! What a checker waits for.
 
 ghost use Rattle.std.specs.Prelude.{◌≡◌, Some};
-ghost use Rattle.cbor_checker.specs.Snapshots.{phase_in, within_in};
+ghost use Rattle.cbor_checker.specs.Snapshots.{phase_in};
 
 use ciborium_ll_text::state::State;
 
@@ -39,17 +39,6 @@ pub(crate) enum Phase {
     Faulted(Fault),
 }
 
-/// The strings of indefinite length that are open.
-#[derive(Clone, Copy)]
-pub(crate) enum Within {
-    /// No string.
-    Nothing,
-    /// A byte string, and this many strings within it.
-    Bytes(usize),
-    /// A text, and this many strings within it.
-    Text(usize),
-}
-
 impl Phase {
     /// Returns the number of the kind, how many bytes are due or the place of a fault, and the number of a text's
     /// state.
@@ -80,32 +69,6 @@ impl Phase {
             5 => Some(Phase::Faulted(Fault::Syntax(number))),
             6 => Some(Phase::Faulted(Fault::Break(number))),
             7 => Some(Phase::Faulted(Fault::Deep(number))),
-            _ => None,
-        }
-    }
-}
-
-impl Within {
-    /// Returns the number of the kind, and how many strings are open within the first.
-    #[inline(always)]
-    pub(crate) fn numbers(self) -> (u8, usize)
-        ensures { within_in result.0 result.1 ≡ Some self }
-    {
-        match self {
-            Within::Nothing => (0, 0),
-            Within::Bytes(more) => (1, more),
-            Within::Text(more) => (2, more),
-        }
-    }
-
-    /// Returns the open strings with these numbers, if there are any.
-    pub(crate) fn of(kind: u8, more: usize) -> Option<Within>
-        ensures { result ≡ within_in kind more }
-    {
-        match kind {
-            0 => Some(Within::Nothing),
-            1 => Some(Within::Bytes(more)),
-            2 => Some(Within::Text(more)),
             _ => None,
         }
     }

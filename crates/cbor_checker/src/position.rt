@@ -3,17 +3,18 @@
 ghost use Rattle.ciborium_ll_grammar.specs.declared.spelling.Spelling.{Spelling};
 ghost use Rattle.std.specs.Prelude.{◌≡◌, ◌+◌, ◌<◌, ◌≤◌, ◌%◌, length, slice_index, true, false, IsSome};
 ghost use Rattle.ciborium_ll_grammar.specs.Title.{affix_len};
-ghost use Rattle.cbor_checker.specs.Opens.{open_count};
+ghost use Rattle.cbor_parser.specs.Strings.{open_count};
 ghost use Rattle.cbor_checker.specs.Snapshots.{levels_in};
 ghost use Rattle.cbor_checker.specs.Telling.{has_left};
 ghost use Rattle.ciborium_ll_grammar.specs.declared.limits.TheConstants.{MOST_LEVELS};
 
 use crate::levels::{Levels, are_levels};
-use crate::phase::{Phase, Within};
+use crate::phase::Phase;
 use crate::progress::{Feed, Progress};
 use crate::snapshot::{Snapshot, is_state, spelling_of};
 use crate::tell::answer;
 use crate::walk::Walk;
+use cbor_parser::strings::Within;
 use ciborium_ll_grammar::few::Few;
 use ciborium_ll_grammar::limits::MOST_LEVELS;
 use ciborium_ll_grammar::spelling::Spelling;

@@ -3,13 +3,13 @@
 ghost use Rattle.ciborium_ll_grammar.specs.declared.spelling.Spelling.{Spelling};
 ghost use Rattle.std.specs.Prelude.{◌≡◌, ◌<◌, ◌≤◌, length, true, false, IfNone, IfSome, IsSome, IsSomeAnd};
 ghost use Rattle.std.specs.Option.{option_map};
-ghost use Rattle.cbor_checker.specs.Opens.{open_count};
 ghost use Rattle.cbor_checker.specs.Snapshots.{IsState, spelling_in};
 ghost use Rattle.cbor_checker.specs.Telling.{has_left};
 
-use crate::phase::{Phase, Within};
+use crate::phase::Phase;
 use crate::position::Position;
 use crate::progress::Feed;
+use cbor_parser::strings::Within;
 use ciborium_ll_grammar::limits::{LONGEST_TITLE, MOST_LEVELS};
 use ciborium_ll_grammar::spelling::Spelling;
 use ciborium_ll_grammar::titles::are_begun;
@@ -132,17 +132,6 @@ fn has_left(phase: Phase) -> bool
     }
 }
 
-/// Returns whether at least as many bytes came as strings are open.
-fn are_counted(within: Within, offset: usize) -> bool
-    ensures yes { result ≡ true → open_count within ≤ offset }
-    ensures no { result ≡ false → offset < open_count within }
-{
-    match within {
-        Within::Nothing => true,
-        Within::Bytes(more) | Within::Text(more) => more < offset,
-    }
-}
-
 /// Returns which spellings the checker takes: 0 is any, and 1 is the shortest only.
 pub(crate) fn spelling_of(number: u8) -> Option<Spelling>
     ensures { result ≡ spelling_in number }
@@ -170,7 +159,7 @@ pub(crate) fn is_state(snapshot: &Snapshot, phase: Phase, within: Within) -> boo
     if snapshot.depth as usize > MOST_LEVELS - nests {
         return false;
     }
-    if !are_counted(within, snapshot.offset as usize) {
+    if !within.is_counted(snapshot.offset as usize) {
         return false;
     }
     has_left(phase) && are_begun(&snapshot.title[..title_len])

@@ -1,35 +1,15 @@
-//! Headers of whole titles, and what the first bytes of a title say.
+//! What the first bytes of a title say.
 
-ghost use Rattle.std.specs.Prelude.{◌≡◌, ◌<◌, ◌+◌, ◌%◌, ◌≤◌, true, false, IfSome, IfNone, length, slice_index};
-ghost use Rattle.ciborium_ll_grammar.specs.Title.{IsTitle, affix_len};
-ghost use Rattle.ciborium_ll_grammar.specs.Items.{IsTakenTitle};
-ghost use Rattle.cbor_checker.specs.Steps.{NoneTaken, SomeTaken};
+ghost use Rattle.std.specs.Prelude.{◌≡◌, ◌<◌, ◌%◌, ◌≤◌, true, false, length, slice_index};
+ghost use Rattle.ciborium_ll_grammar.specs.Title.{affix_len};
+ghost use Rattle.cbor_parser.specs.Titles.{NoneTaken, SomeTaken};
 ghost use Rattle.cbor_checker.specs.Longer.{BeginsLonger, HasZero};
-ghost use Rattle.cbor_checker.specs.Blocked.{blocked, is_single};
+ghost use Rattle.cbor_checker.specs.Blocked.{blocked, is_single, too_deep};
 
-use crate::phase::{Fault, Within};
-use ciborium_ll_grammar::hdr::Header;
+use crate::phase::Fault;
+use cbor_parser::strings::Within;
 use ciborium_ll_grammar::hdr::table::{Affix, TitleKind, row_of};
 use ciborium_ll_grammar::spelling::Spelling;
-use ciborium_ll_grammar::titles::title_of;
-
-/// Returns the header of a title, or `None` if no title that the checker takes begins with these bytes.
-///
-/// The call refuses a title without a meaning, and a longer title if only the shortest are taken. All bytes that the
-/// first byte announces are there.
-#[inline(always)]
-pub(crate) fn taken_header(bytes: &[u8], spelling: Spelling) -> Option<Header>
-    requires { length bytes.now ≡ 1 + affix_len (slice_index bytes.now 0 % 32) }
-    ensures title { IfSome result (IsTitle bytes.now) }
-    ensures taken { IfSome result (IsTakenTitle spelling bytes.now) }
-    ensures none { IfNone result (NoneTaken spelling bytes.now) }
-{
-    let (title, kind) = title_of(bytes)?;
-    if spelling.is_shortest() && title.minor.is_refused_when_strict(title.major) {
-        return None;
-    }
-    title.header(kind)
-}
 
 /// Returns whether a byte of 0 stands at `at`.
 fn has_zero(bytes: &[u8], at: usize) -> bool
@@ -70,19 +50,28 @@ pub(crate) fn begins_none(bytes: &[u8], spelling: Spelling) -> bool
     spelling.is_shortest() && begins_longer(bytes)
 }
 
+/// Returns why no level is left for a title of this kind, if it is that of a nest and `depth` is 0.
+#[inline(always)]
+fn too_deep(depth: usize, place: usize, kind: TitleKind) -> Option<Fault>
+    ensures { result ≡ too_deep depth place kind }
+{
+    match kind {
+        TitleKind::Tag | TitleKind::Array | TitleKind::Map if depth == 0 => {
+            Some(Fault::Deep(place))
+        }
+        _ => None,
+    }
+}
+
 /// Returns why a title of this kind may not stand at `place`, before all of its bytes came.
 #[inline(always)]
 pub(crate) fn blocked(within: Within, depth: usize, place: usize, kind: TitleKind) -> Option<Fault>
     ensures { result ≡ blocked within depth place kind }
 {
-    match (within, kind) {
-        (Within::Nothing, TitleKind::Tag | TitleKind::Array | TitleKind::Map) if depth == 0 => {
-            Some(Fault::Deep(place))
-        }
-        (Within::Nothing, _)
-        | (Within::Bytes(_), TitleKind::Bytes)
-        | (Within::Text(_), TitleKind::Text) => None,
-        _ => Some(Fault::Syntax(place)),
+    match within {
+        Within::Nothing => too_deep(depth, place, kind),
+        Within::Open(_, _) if within.blocks(kind) => Some(Fault::Syntax(place)),
+        Within::Open(_, _) => None,
     }
 }
 

@@ -6,7 +6,7 @@ ghost use Rattle.ciborium_ll_text.specs.States.{may_end};
 ghost use Rattle.ciborium_ll_grammar.specs.declared.spelling.Spelling.{Spelling};
 ghost use Rattle.ciborium_ll_grammar.specs.declared.spelling.Spelling.TheVariants.{Any};
 ghost use Rattle.ciborium_ll_grammar.specs.Title.{affix_len};
-ghost use Rattle.cbor_checker.specs.Opens.{open_count};
+ghost use Rattle.cbor_parser.specs.Strings.{open_count, within_after};
 ghost use Rattle.cbor_checker.specs.Blocked.{blocked, is_single};
 ghost use Rattle.ciborium_ll_grammar.specs.declared.limits.TheConstants.{MOST_LEVELS};
 
@@ -14,9 +14,11 @@ mod nests;
 
 use crate::level::Level;
 use crate::levels::Levels;
-use crate::phase::{Fault, Phase, Within};
+use crate::phase::{Fault, Phase};
 use crate::plain::is_short_ascii;
-use crate::title::{begins_none, blocked, is_single, taken_header};
+use crate::title::{begins_none, blocked, is_single};
+use cbor_parser::strings::{StringKind, Within};
+use cbor_parser::title::taken_header;
 use ciborium_ll_grammar::few::Few;
 use ciborium_ll_grammar::hdr::Header;
 use ciborium_ll_grammar::hdr::table::{Affix, TitleKind, row_of};
@@ -52,10 +54,10 @@ impl Walk<'_> {
     ghost use Rattle.cbor_checker.specs.Steps.{title_place, with_byte};
     ghost use Rattle.cbor_checker.specs.Reading.{IsMore, Tells, TellsEnd};
     ghost use Rattle.cbor_checker.specs.Telling.{IsAnswer, end_of, is_due, progress_of, title_due};
-    ghost use Rattle.cbor_checker.specs.Spots.{Spot, at_phase, body_placed, broken, bytes_due, bytes_entered, entered};
-    ghost use Rattle.cbor_checker.specs.Spots.{item_done, item_entered, nested, string_closed, string_done, string_open};
-    ghost use Rattle.cbor_checker.specs.Spots.{open_entered, refused, text_due, text_entered};
-    ghost use Rattle.cbor_checker.specs.declared.phase.Within.TheVariants as w;
+    ghost use Rattle.cbor_checker.specs.Spots.{Spot, at_phase, body_placed, broken, bytes_due, entered, item_done};
+    ghost use Rattle.cbor_checker.specs.Spots.{item_entered, nested, piece_entered, refused, string_done, string_open};
+    ghost use Rattle.cbor_checker.specs.Spots.{text_due, within_entered};
+    ghost use Rattle.cbor_parser.specs.declared.strings.Within.TheVariants as w;
     ghost use Rattle.cbor_checker.specs.declared.phase.Phase.TheVariants as p;
     ghost use Rattle.ciborium_ll_text.specs.declared.state.State.TheVariants as s;
 
@@ -99,7 +101,7 @@ impl Walk<'_> {
     {
         match self.within {
             Within::Nothing => self.item_done(),
-            Within::Bytes(_) | Within::Text(_) => self.phase = Phase::Title,
+            Within::Open(_, _) => self.phase = Phase::Title,
         }
     }
 
@@ -180,27 +182,14 @@ impl Walk<'_> {
         }
     }
 
-    /// Waits for a piece or a break of these open strings.
-    fn string_open(&mut self, within: Within)
-        requires { open_count within ≤ self.old.offset }
-        ensures spot { spot_at self.new ≡ string_open within (spot_at self.old) }
+    /// Opens a string of this kind as the item that was due, and waits for a piece or a break.
+    fn string_open(&mut self, kind: StringKind)
+        requires { 1 ≤ self.old.offset }
+        ensures spot { spot_at self.new ≡ string_open kind (spot_at self.old) }
         ensures lent { AreLent self.old.levels self.new.levels }
     {
-        self.within = within;
+        self.within = Within::Open(kind, 0);
         self.phase = Phase::Title;
-    }
-
-    /// Enters an open within an open string of its kind, or refuses it if only the shortest spelling is taken.
-    fn enter_open(&mut self, within: Within)
-        requires { open_count within ≤ self.old.offset }
-        ensures spot { spot_at self.new ≡ open_entered self.old.spelling within (spot_at self.old) }
-        ensures lent { AreLent self.old.levels self.new.levels }
-    {
-        if self.spelling.is_shortest() {
-            self.refuse();
-        } else {
-            self.string_open(within);
-        }
     }
 
     /// Enters the title of this header as the item that was due. Returns `true` if it knows that an item is due next,
@@ -223,7 +212,7 @@ impl Walk<'_> {
                 false
             }
             Header::Bytes(None) => {
-                self.string_open(Within::Bytes(0));
+                self.string_open(StringKind::Bytes);
                 false
             }
             Header::Text(Some(len)) => {
@@ -232,7 +221,7 @@ impl Walk<'_> {
                 false
             }
             Header::Text(None) => {
-                self.string_open(Within::Text(0));
+                self.string_open(StringKind::Text);
                 false
             }
             Header::Tag(_) | Header::Array(_) | Header::Map(_) => {
@@ -245,32 +234,6 @@ impl Walk<'_> {
         }
     }
 
-    /// Ends an open byte string at its break, with `more` open strings around it.
-    fn bytes_closed(&mut self, more: usize)
-        requires { more ≤ self.old.offset }
-        ensures spot { spot_at self.new ≡ string_closed w.Bytes more (spot_at self.old) }
-        ensures lent { AreLent self.old.levels self.new.levels }
-    {
-        if more == 0 {
-            self.item_done();
-        } else {
-            self.string_open(Within::Bytes(more - 1));
-        }
-    }
-
-    /// Ends an open text at its break, with `more` open strings around it.
-    fn text_closed(&mut self, more: usize)
-        requires { more ≤ self.old.offset }
-        ensures spot { spot_at self.new ≡ string_closed w.Text more (spot_at self.old) }
-        ensures lent { AreLent self.old.levels self.new.levels }
-    {
-        if more == 0 {
-            self.item_done();
-        } else {
-            self.string_open(Within::Text(more - 1));
-        }
-    }
-
     /// Refuses what came: a fault of syntax at the place.
     fn refuse(&mut self)
         ensures spot { spot_at self.new ≡ refused (spot_at self.old) }
@@ -279,31 +242,33 @@ impl Walk<'_> {
         self.phase = Phase::Faulted(Fault::Syntax(self.place));
     }
 
-    /// Enters the title of this header within an open byte string, with `more` open strings around it.
-    fn enter_bytes(&mut self, header: Header, more: usize)
-        requires { more + 2 ≤ self.old.offset }
-        ensures spot { spot_at self.new ≡ bytes_entered header more (spot_at self.old) }
+    /// Waits for the body that this header announces, or for a title if it announces none.
+    fn enter_piece(&mut self, header: Header)
+        ensures spot { spot_at self.new ≡ piece_entered header (spot_at self.old) }
         ensures lent { AreLent self.old.levels self.new.levels }
     {
         match header {
             Header::Bytes(Some(len)) => self.bytes_due(len),
-            Header::Bytes(None) => self.enter_open(Within::Bytes(more + 1)),
-            Header::Break => self.bytes_closed(more),
-            _ => self.refuse(),
+            Header::Text(Some(len)) => self.text_due(len),
+            _ => self.phase = Phase::Title,
         }
     }
 
-    /// Enters the title of this header within an open text, with `more` open strings around it.
-    fn enter_text(&mut self, header: Header, more: usize)
-        requires { more + 2 ≤ self.old.offset }
-        ensures spot { spot_at self.new ≡ text_entered header more (spot_at self.old) }
+    /// Enters the title of this header within open strings.
+    fn enter_within(&mut self, header: Header)
+        requires { open_count self.old.within + 1 ≤ self.old.offset }
+        ensures spot { spot_at self.new
+            ≡ within_entered (within_after self.old.spelling self.old.within header) header (spot_at self.old) }
         ensures lent { AreLent self.old.levels self.new.levels }
     {
-        match header {
-            Header::Text(Some(len)) => self.text_due(len),
-            Header::Text(None) => self.enter_open(Within::Text(more + 1)),
-            Header::Break => self.text_closed(more),
-            _ => self.refuse(),
+        let _most = self.offset; // No more strings are open than bytes came.
+        match self.within.after(self.spelling, header) {
+            Some(Within::Nothing) => self.item_done(),
+            Some(within) => {
+                self.within = within;
+                self.enter_piece(header);
+            }
+            None => self.refuse(),
         }
     }
 
@@ -320,8 +285,7 @@ impl Walk<'_> {
             Within::Nothing => {
                 self.enter_item(header);
             }
-            Within::Bytes(more) => self.enter_bytes(header, more),
-            Within::Text(more) => self.enter_text(header, more),
+            Within::Open(_, _) => self.enter_within(header),
         }
     }
 
@@ -734,7 +698,7 @@ impl Walk<'_> {
             Phase::Title if self.front.len() > 0 => self.title_byte(rest),
             Phase::Title => match self.within {
                 Within::Nothing => self.items(rest),
-                Within::Bytes(_) | Within::Text(_) => self.title_within(rest),
+                Within::Open(_, _) => self.title_within(rest),
             },
             Phase::Bytes(left) => self.bytes_run(left, rest),
             Phase::Text(left, State::Between) => self.text_from(left, bytes, at),

@@ -15,11 +15,12 @@ use Rattle.cbor_skip.specs.Due.{IsNest}
 use Rattle.cbor_checker.specs.declared.phase.Phase.TheVariants as p
 use Rattle.cbor_checker.specs.declared.phase.Fault.{Fault}
 use Rattle.cbor_checker.specs.declared.phase.Fault.TheVariants as f
-use Rattle.cbor_checker.specs.declared.phase.Within.{Within}
-use Rattle.cbor_checker.specs.declared.phase.Within.TheVariants as w
+use Rattle.cbor_parser.specs.declared.strings.Within.{Within}
+use Rattle.cbor_parser.specs.declared.strings.Within.TheVariants as w
 use Rattle.cbor_checker.specs.Levels.{next}
 use Rattle.cbor_checker.specs.Spots.{Spot, settled, broken, item_entered, entered}
-use Rattle.cbor_checker.specs.Steps.{TitleStep, cut, early, whole, none, with_byte, SomeTaken}
+use Rattle.cbor_parser.specs.Titles.{SomeTaken}
+use Rattle.cbor_checker.specs.Steps.{TitleStep, cut, early, whole, none, with_byte}
 use Rattle.cbor_checker.proofs.EnterLaws.{break_bytes}
 use Rattle.cbor_checker_laws.proofs.Levels.{Level}
 use Rattle.cbor_checker_laws.proofs.Runs.{Runs, fault_of, next_of, at, inside}

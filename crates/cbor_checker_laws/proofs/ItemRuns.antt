@@ -15,8 +15,9 @@ use Rattle.ciborium_ll_grammar.proofs.ElementLaws.{bytes_writable}
 use Rattle.ciborium_ll_grammar.proofs.StringLaws.{break_title}
 use Rattle.ciborium_ll_text.proofs.StateLaws.{text_ends}
 use Rattle.cbor_checker.specs.declared.phase.Fault.{Fault}
-use Rattle.cbor_checker.specs.declared.phase.Within.{Within}
-use Rattle.cbor_checker.specs.declared.phase.Within.TheVariants as w
+use Rattle.cbor_parser.specs.declared.strings.StringKind.TheVariants as sk
+use Rattle.cbor_parser.specs.declared.strings.Within.{Within}
+use Rattle.cbor_parser.specs.declared.strings.Within.TheVariants as w
 use Rattle.cbor_checker.specs.Levels.{contents, next}
 use Rattle.cbor_checker.specs.Spots.{broken, settled, item_entered, bytes_due, text_due}
 use Rattle.cbor_skip.specs.Due.{IsNest, TakesMore, may_close}
@@ -43,9 +44,9 @@ module _ (fault : Fault) (all : ℕ) (s : Spelling) where
   string_closed_on : (k : Kind) (d : ℕ) (gs : List Level) (rest : List ℕ) → Inside fault all s d gs k 0 (0xff ∷ rest)
       → Behind d gs rest
   string_closed_on Bytes d gs rest o =
-      on_behind (w.Bytes 0) d d gs gs (taken_on h.Break (0xff ∷ []) rest break_title (break_taken s) o)
+      on_behind (w.Open sk.Bytes 0) d d gs gs (taken_on h.Break (0xff ∷ []) rest break_title (break_taken s) o)
   string_closed_on Text d gs rest o =
-      on_behind (w.Text 0) d d gs gs (taken_on h.Break (0xff ∷ []) rest break_title (break_taken s) o)
+      on_behind (w.Open sk.Text 0) d d gs gs (taken_on h.Break (0xff ∷ []) rest break_title (break_taken s) o)
 
   open_completes : (k : Kind) (d : ℕ) (gs : List Level) (u rest : List ℕ) (bs : List (List ℕ)) → AreStrings k u bs
       → AreTakenStrings s k u bs → AreWritable k bs → Inside fault all s d gs k 0 ((u ++ 0xff ∷ []) ++ rest)

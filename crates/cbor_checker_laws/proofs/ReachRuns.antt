@@ -15,8 +15,8 @@ use Rattle.ciborium_ll_grammar.proofs.TitleLaws.{IsTitle-shortest}
 use Rattle.ciborium_ll_grammar.proofs.AloneLaws.{open_in_range}
 use Rattle.cbor_skip.specs.Due.{ItemDue, here, within, IsTakenInside, ReachesItem, at_item, at_string}
 use Rattle.cbor_checker.specs.declared.phase.Fault.{Fault}
-use Rattle.cbor_checker.specs.declared.phase.Within.{Within}
-use Rattle.cbor_checker.specs.declared.phase.Within.TheVariants as w
+use Rattle.cbor_parser.specs.declared.strings.Within.{Within}
+use Rattle.cbor_parser.specs.declared.strings.Within.TheVariants as w
 use Rattle.cbor_checker.specs.Levels.{closes}
 use Rattle.cbor_checker.specs.Spots.{Spot}
 use Rattle.cbor_checker_laws.proofs.Levels.{Level, reached, reached_closes, takes_before, takes_nest}

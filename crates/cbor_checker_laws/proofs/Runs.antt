@@ -7,8 +7,9 @@ use Rattle.cbor_checker_laws.proofs.Levels.{Level}
 use Rattle.cbor_checker.specs.declared.phase.Phase.{Phase}
 use Rattle.cbor_checker.specs.declared.phase.Phase.TheVariants as p
 use Rattle.cbor_checker.specs.declared.phase.Fault.{Fault}
-use Rattle.cbor_checker.specs.declared.phase.Within.{Within}
-use Rattle.cbor_checker.specs.declared.phase.Within.TheVariants as w
+use Rattle.cbor_parser.specs.declared.strings.StringKind.TheVariants as sk
+use Rattle.cbor_parser.specs.declared.strings.Within.{Within}
+use Rattle.cbor_parser.specs.declared.strings.Within.TheVariants as w
 use Rattle.cbor_checker.specs.Spots.{Spot, settled}
 use Rattle.cbor_checker.specs.Steps.{start, Step, StepIn, IsFed, fresh, more}
 use Rattle.cbor_checker.specs.Telling.{is_due}
@@ -78,8 +79,8 @@ at s i d gs a n = record (start s d) { within = i; levels = gs; place = a; offse
 
 -- A string of the kind is open, and `n` further strings in it.
 abbrev pub inside : Kind → ℕ → Within
-inside Bytes n = w.Bytes n
-inside Text n = w.Text n
+inside Bytes n = w.Open sk.Bytes n
+inside Text n = w.Open sk.Text n
 
 -- The spot is after an item, or after the title of a nest.
 abbrev pub behind : Spelling → ℕ → List Level → ℕ → ℕ → Spot

@@ -17,7 +17,8 @@ use Rattle.cbor_skip.specs.Due.{ReachesItem, at_item, at_body, at_piece}
 use Rattle.cbor_skip.specs.ItemFaults.{HasItemFault, HasEarlyBreak, HasDeepNest}
 use Rattle.cbor_checker.specs.declared.phase.Fault.{Fault}
 use Rattle.cbor_checker.specs.declared.phase.Fault.TheVariants as f
-use Rattle.cbor_checker.specs.declared.phase.Within.TheVariants as w
+use Rattle.cbor_parser.specs.declared.strings.StringKind.TheVariants as sk
+use Rattle.cbor_parser.specs.declared.strings.Within.TheVariants as w
 use Rattle.cbor_checker_laws.specs.SameFaults.{NamesSyntax}
 use Rattle.cbor_checker_laws.proofs.Runs.{fault_of, at, inside}
 use Rattle.cbor_checker_laws.proofs.TitleRuns.{title_run, taken_run}
@@ -67,7 +68,7 @@ module _ (fault : Fault) (s : Spelling) (depth : ℕ) (due : List ℕ) (runs : F
   text_named ahead Text len start is_text (at_piece {bytes = b} {title = t} reach q taken) e none =
       let o = string_reached fault s depth (t ++ ahead) due reach runs (e ∙ append_assoc b t ahead) in
       let on = taken_run _ _ _ _ _ _ _ (h.Text (Some len)) t ahead q taken o.1.runs in
-      no_text fault s (w.Text o.0) o.1.left o.1.levels (length b) len ahead (length b + length t) on none
+      no_text fault s (w.Open sk.Text o.0) o.1.left o.1.levels (length b) len ahead (length b + length t) on none
 
   -- The checker names the fault of each row of `FirstFault`.
   row_named : {before ahead written : List ℕ} {point : Point} {answer : Answer} {consumed : ℕ}

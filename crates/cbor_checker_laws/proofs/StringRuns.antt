@@ -9,7 +9,8 @@ use Rattle.ciborium_ll_text.proofs.EndLaws.{none_left, text_may_end}
 use Rattle.cbor_checker.specs.declared.phase.Phase.TheVariants as p
 use Rattle.cbor_checker.specs.declared.phase.Fault.{Fault}
 use Rattle.cbor_checker.specs.declared.phase.Fault.TheVariants as f
-use Rattle.cbor_checker.specs.declared.phase.Within.{Within}
+use Rattle.cbor_parser.specs.declared.strings.StringKind.TheVariants as sk
+use Rattle.cbor_parser.specs.declared.strings.Within.{Within}
 use Rattle.cbor_checker.specs.Spots.{Spot, string_done, bytes_due, text_due}
 use Rattle.cbor_checker.specs.Steps.{text_left}
 use Rattle.cbor_checker.proofs.LeadLaws.{between_ends, due_alike, left_alike}
@@ -28,7 +29,7 @@ use Rattle.ciborium_ll_grammar.specs.StrictElements.{AreFlat, none as no_flat, m
 use Rattle.ciborium_ll_grammar.proofs.ElementLaws.{AreWritable-left, AreWritable-right}
 use Rattle.ciborium_ll_grammar.proofs.StringLaws.{break_title}
 use Rattle.ciborium_ll_text.proofs.StateLaws.{text_ends}
-use Rattle.cbor_checker.specs.declared.phase.Within.TheVariants as w
+use Rattle.cbor_parser.specs.declared.strings.Within.TheVariants as w
 use Rattle.cbor_checker_laws.proofs.TitleRuns.{taken_on}
 
 -- The bytes begin with no text of `len` bytes.
@@ -122,9 +123,9 @@ module _ (fault : Fault) (all : ℕ) (s : Spelling) (d : ℕ) (gs : List Level) 
       → IsTakenTitle s t (kind_header k (Some (length body))) → IsWritable k body → Inside k j (t ++ (body ++ rest))
       → Inside k j rest
   whole_on Bytes j t body rest q g sound o =
-      bytes_on s (w.Bytes j) d gs body rest (taken_on (h.Bytes (Some (length body))) t (body ++ rest) q g o)
+      bytes_on s (w.Open sk.Bytes j) d gs body rest (taken_on (h.Bytes (Some (length body))) t (body ++ rest) q g o)
   whole_on Text j t body rest q g sound o =
-      text_on s (w.Text j) d gs body rest (text_ends body sound)
+      text_on s (w.Open sk.Text j) d gs body rest (text_ends body sound)
       (taken_on (h.Text (Some (length body))) t (body ++ rest) q g o)
 
   -- The run leads over an open.

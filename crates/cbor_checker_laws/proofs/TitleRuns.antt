@@ -13,7 +13,7 @@ use Rattle.cbor_checker_laws.proofs.Levels.{Level}
 use Rattle.cbor_checker.specs.declared.phase.Phase.TheVariants as p
 use Rattle.cbor_checker.specs.declared.phase.Fault.{Fault}
 use Rattle.cbor_checker.specs.declared.phase.Fault.TheVariants as f
-use Rattle.cbor_checker.specs.declared.phase.Within.{Within}
+use Rattle.cbor_parser.specs.declared.strings.Within.{Within}
 use Rattle.cbor_checker.specs.Levels.{next}
 use Rattle.cbor_checker.specs.Spots.{Spot, settled, entered, text_due}
 use Rattle.cbor_checker.specs.Steps.{TitleStep, cut, early, whole, none}

@@ -10,7 +10,7 @@ use Rattle.ciborium_ll_text.specs.States.{after_byte, may_end}
 use Rattle.cbor_checker.specs.declared.phase.Fault.{Fault}
 use Rattle.cbor_checker.specs.declared.phase.Phase.{Phase}
 use Rattle.cbor_checker.specs.declared.phase.Phase.TheVariants as p
-use Rattle.cbor_checker.specs.declared.phase.Within.{Within}
+use Rattle.cbor_parser.specs.declared.strings.Within.{Within}
 use Rattle.cbor_checker.specs.declared.progress.Progress.TheVariants as r
 use Rattle.cbor_checker.specs.Levels.{contents}
 use Rattle.cbor_checker.specs.declared.checker.Checker.{Checker}

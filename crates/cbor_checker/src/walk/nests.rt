@@ -46,7 +46,7 @@ fn nest_of(first: u8) -> Option<Nest>
 impl Walk<'_> {
     ghost use Rattle.cbor_checker.specs.Walking.{AreLent, spot_at};
     ghost use Rattle.cbor_checker.specs.Steps.{Leads};
-    ghost use Rattle.cbor_checker.specs.declared.phase.Within.TheVariants as w;
+    ghost use Rattle.cbor_parser.specs.declared.strings.Within.TheVariants as w;
     ghost use Rattle.cbor_checker.specs.declared.phase.Phase.TheVariants as p;
 
     /// Takes the plain items at the start of `bytes`, up to the last item of the innermost nest, if that nest is

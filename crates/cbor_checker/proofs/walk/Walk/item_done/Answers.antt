@@ -1,7 +1,7 @@
 use Rattle.std.proofs.Common.{◌∙◌}
 use Rattle.cbor_checker.specs.Walking.{levels_at, spot_at}
 use Rattle.cbor_checker.specs.declared.phase.Phase.TheVariants as p
-use Rattle.cbor_checker.specs.declared.phase.Within.TheVariants as w
+use Rattle.cbor_parser.specs.declared.strings.Within.TheVariants as w
 use Rattle.cbor_checker.proofs.SettledLaws.{settled_anyhow}
 use Rattle.cbor_checker.proofs.walk.Walk.item_done.Goals as goal
 

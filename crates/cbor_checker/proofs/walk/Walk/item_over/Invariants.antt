@@ -1,6 +1,6 @@
 use Rattle.std.proofs.Common.{◌≡◌}
 use Rattle.cbor_checker.specs.declared.phase.Phase.TheVariants as p
-use Rattle.cbor_checker.specs.declared.phase.Within.TheVariants as w
+use Rattle.cbor_parser.specs.declared.strings.Within.TheVariants as w
 use Rattle.cbor_checker.specs.Walking.{AreLent, levels_at, spot_at}
 use Rattle.cbor_checker.specs.Spots.{settled}
 use Rattle.cbor_checker.proofs.walk.Walk.item_over.Given as goal

@@ -2,7 +2,7 @@ use Rattle.std.proofs.Common.{ℕ, ◌+◌, ◌≤◌, List, length, take, refl,
 use Rattle.std.proofs.lemmas.List.{length-take-le, take_rest}
 use Rattle.std.specs.Str.{IsAscii}
 use Rattle.ciborium_ll_text.proofs.StateLaws.{ascii_stays}
-use Rattle.cbor_checker.specs.declared.phase.Within.{Within}
+use Rattle.cbor_parser.specs.declared.strings.Within.{Within}
 use Rattle.cbor_checker.specs.Spots.{Spot, entered}
 use Rattle.cbor_checker.specs.Steps.{Leads}
 use Rattle.cbor_checker.specs.Walking.{spot_at}

@@ -3,7 +3,7 @@ use Rattle.std.proofs.Common.{arith, rules}
 use Rattle.ciborium_ll_grammar.specs.Title.{affix_len}
 use Rattle.cbor_checker.specs.Walking.{spot_at}
 use Rattle.cbor_checker.specs.Steps.{with_byte}
-use Rattle.cbor_checker.proofs.BlockedLaws.{step_early, step_cut, step_whole, step_none}
+use Rattle.cbor_checker.proofs.BlockedLaws.{step_early, step_cut, step_whole, step_none, step_refused}
 use Rattle.cbor_checker.proofs.walk.Walk.title_step.Goals as goal
 
 -- If one more byte makes the title long enough, the title has exactly the bytes that its first byte announces.
@@ -34,7 +34,7 @@ returns-in-Some-header-clause-spot c =
 
 pub returns-in-None-clause-spot : goal.returns-in-None-clause-spot
 returns-in-None-clause-spot c =
-    step_none (with_byte c.args.byte (spot_at c.args.self.now)) _ (search rules) (search rules)
+    step_refused (with_byte c.args.byte (spot_at c.args.self.now)) _ (search rules) (search rules)
 
 pub taken_header-header-requires : goal.taken_header-header-requires
 taken_header-header-requires c =
