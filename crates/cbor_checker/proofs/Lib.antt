@@ -8,7 +8,6 @@ pub mod KeptLaws
 pub mod LeadLaws
 pub mod LevelLaws
 pub mod LiveLaws
-pub mod LongerBegun
 pub mod OneSpot
 pub mod PlainLaws
 pub mod PlainRuns

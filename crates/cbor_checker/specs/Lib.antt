@@ -1,7 +1,6 @@
 pub mod Blocked
 pub mod Checking
 pub mod Levels
-pub mod Longer
 pub mod Places
 pub mod Plain
 pub mod Reading

@@ -28,8 +28,8 @@ use Rattle.cbor_checker_laws.proofs.TitleRuns.{Faults, Titled, taken, known, unt
 use Rattle.cbor_checker_laws.proofs.StringRuns.{break_taken}
 use Rattle.cbor_checker_laws.proofs.ReachRuns.{can_close, FromStart, item_reached}
 use Rattle.ciborium_ll_grammar.proofs.TitleLaws.{one_title, shortest_or_longer, shortest_some}
-use Rattle.cbor_checker.specs.Longer.{BeginsLonger}
-use Rattle.cbor_checker.proofs.LongerBegun.{strict_some}
+use Rattle.cbor_parser.specs.Longer.{BeginsLonger}
+use Rattle.cbor_parser.proofs.LongerBegun.{strict_some}
 use Rattle.cbor_checker_laws.specs.SameFaults.{HasLongNest}
 
 -- ---- no title

@@ -1,5 +1,6 @@
 -- The answer of a copier if no more bytes come.
 use Rattle.std.proofs.Common.{◌≡◌, ◌≢◌, ◌∙◌, ◌↔◌, ℕ, List, [], ◌∷◌, refl, sym, ap}
+use Rattle.ciborium_ll_grammar.specs.declared.spelling.Spelling.{Spelling}
 use Rattle.cbor_copier.specs.declared.copier.Copier.{Copier}
 use Rattle.cbor_copier.specs.declared.phase.Phase.{Phase}
 use Rattle.cbor_copier.specs.declared.phase.Phase.TheVariants as p
@@ -13,15 +14,15 @@ use Rattle.cbor_copier.proofs.TellLaws.{copier_ends, copier_exact}
 
 -- ---- what it says
 
-pub end_exact : (copier : Copier) (end : End) → AnswersEnd copier end → (count : ℕ) (read written : List ℕ)
-    → HasCopied count read written copier → (end ≡ e.Ended) ↔ AreSpelled count read written
+pub end_exact : (copier : Copier) (end : End) → AnswersEnd copier end → (allowed : Spelling) (count : ℕ) (read written : List ℕ)
+    → HasCopied allowed count read written copier → (end ≡ e.Ended) ↔ AreSpelled allowed count read written
 unfolding AnswersEnd HasCopied
-end_exact copier end is count read written so = copier_exact copier end is count read written so
+end_exact copier end is allowed count read written so = copier_exact copier end is allowed count read written so
 
-pub end_told : (copier : Copier) (end : End) → AnswersEnd copier end → (count : ℕ) (read written : List ℕ)
-    → HasCopied count read written copier → TellsEnd count read written end
+pub end_told : (copier : Copier) (end : End) → AnswersEnd copier end → (allowed : Spelling) (count : ℕ) (read written : List ℕ)
+    → HasCopied allowed count read written copier → TellsEnd allowed count read written end
 unfolding AnswersEnd HasCopied
-end_told copier end is count read written so = copier_ends copier end is count read written so
+end_told copier end is allowed count read written so = copier_ends copier end is allowed count read written so
 
 some_by : (bytes : List ℕ) (phase : Phase) → e.Room ≡ end_of bytes phase → bytes ≢ []
 some_by [] p.Ended is none = cc
@@ -54,16 +55,16 @@ end_answers copier end is = ap progress_at is ∙ same_by copier.pending copier.
 
 -- ---- the same bytes, the same answer
 
-pub one_end : (count : ℕ) (read written : List ℕ) (one other : Copier) (first second : End)
-    → HasCopied count read written one → HasCopied count read written other → AnswersEnd one first
+pub one_end : (allowed : Spelling) (count : ℕ) (read written : List ℕ) (one other : Copier) (first second : End)
+    → HasCopied allowed count read written one → HasCopied allowed count read written other → AnswersEnd one first
     → AnswersEnd other second → first ≡ second
 unfolding AnswersEnd
-one_end count read written one other first second a b says tells =
-    let same = one_place count read written one other a b in
+one_end allowed count read written one other first second a b says tells =
+    let same = one_place allowed count read written one other a b in
     says ∙ (rw (same.0, same.1) refl ∙ sym tells)
 
-pub same_end : (count : ℕ) (read written : List ℕ) (one other : Copier) (end : End) → HasCopied count read written one
-    → HasCopied count read written other → AnswersEnd one end → AnswersEnd other end
+pub same_end : (allowed : Spelling) (count : ℕ) (read written : List ℕ) (one other : Copier) (end : End) → HasCopied allowed count read written one
+    → HasCopied allowed count read written other → AnswersEnd one end → AnswersEnd other end
 unfolding AnswersEnd
-same_end count read written one other end a b says =
-    let same = one_place count read written one other a b in says ∙ rw (same.0, same.1) refl
+same_end allowed count read written one other end a b says =
+    let same = one_place allowed count read written one other a b in says ∙ rw (same.0, same.1) refl

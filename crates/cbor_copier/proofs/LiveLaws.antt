@@ -3,10 +3,14 @@ use Rattle.std.proofs.Common.{◌≡◌, ℕ, zero, suc, ◌-◌, ◌<◌, true,
 use Rattle.std.proofs.Common.{inr, append_assoc, append-nil, length-append, replicate}
 use Rattle.std.proofs.lemmas.Bool.Decides.{nat_tests}
 use Rattle.std.proofs.lemmas.List.{length-replicate}
+use Rattle.ciborium_ll_grammar.specs.declared.spelling.Spelling.{Spelling}
+use Rattle.ciborium_ll_grammar.specs.declared.hdr.Header.{Header}
 use Rattle.ciborium_ll_grammar.specs.declared.hdr.Header.TheVariants as h
-use Rattle.ciborium_ll_grammar.specs.Title.{numbered, Unsigned, Small, AreBytes}
-use Rattle.ciborium_ll_grammar.specs.Strings.{Kind, IsWritable}
-use Rattle.ciborium_ll_grammar.specs.Elements.{Mark, Plain, IsElement, plain}
+use Rattle.ciborium_ll_grammar.specs.Title.{AreBytes, IsTitle, Major, Unsigned, Size, Small, affix_of, alone, major_code}
+use Rattle.ciborium_ll_grammar.specs.Title.{numbered}
+use Rattle.ciborium_ll_grammar.proofs.TitleLaws.{minor_below}
+use Rattle.ciborium_ll_grammar.specs.Strings.{IsWritable}
+use Rattle.ciborium_ll_grammar.specs.Elements.{Close, Mark, Plain, IsElement, plain}
 use Rattle.ciborium_ll_grammar.proofs.AffixLaws.{AreBytes-zeros, AreBytes-append}
 use Rattle.ciborium_ll_text.specs.declared.state.State.{State}
 use Rattle.ciborium_ll_text.specs.declared.state.State.TheVariants as s
@@ -16,55 +20,64 @@ use Rattle.ciborium_ll_text.proofs.StateLaws.{after-append, text_from}
 use Rattle.ciborium_ll_text.proofs.TextLaws.{IsCharacters-append}
 use Rattle.cbor_copier.specs.declared.phase.Phase.{Phase}
 use Rattle.cbor_copier.specs.declared.phase.Phase.TheVariants as p
-use Rattle.cbor_copier.specs.declared.phase.StringKind.{StringKind}
-use Rattle.cbor_copier.specs.declared.phase.StringKind.TheVariants as k
-use Rattle.cbor_copier.specs.declared.phase.Within.{Within}
-use Rattle.cbor_copier.specs.declared.phase.Within.TheVariants as w
+use Rattle.cbor_parser.specs.declared.strings.StringKind.{StringKind}
+use Rattle.cbor_parser.specs.declared.strings.StringKind.TheVariants as k
+use Rattle.cbor_parser.specs.declared.strings.Within.{Within}
+use Rattle.cbor_parser.specs.declared.strings.Within.TheVariants as w
+use Rattle.cbor_parser.specs.Strings.{kind_of}
 use Rattle.cbor_copier.specs.Spots.{Spot, putting, entered}
 use Rattle.cbor_copier.specs.Reading.{SomeGoOn}
-use Rattle.cbor_copier.proofs.EnterLaws.{one_more, closes, closes_last, Behind, string_behind, run_all, some_due}
-use Rattle.cbor_copier.proofs.EnterLaws.{title_leads}
+use Rattle.cbor_copier.proofs.EnterLaws.{one_more, closes, closes_last, Behind, string_behind, all_taken, some_due}
+use Rattle.cbor_copier.proofs.EnterLaws.{tight_mark, title_leads}
 use Rattle.cbor_copier.proofs.KeptLaws.{enters}
-use Rattle.cbor_copier.proofs.Reached.{kind_of, RunLeft, InOpen, Here, between, in_open, Titling, Bodying, HoldsIn, clear}
-use Rattle.cbor_copier.proofs.StepLaws.{continued}
+use Rattle.cbor_copier.proofs.Reached.{RunLeft, InOpen, Here, between, in_open, Tight, Titling, Bodying, HoldsIn, clear}
 
 -- If the elements go on after `more`, they go on before `more`.
-before_those : {count : ℕ} {bytes : List ℕ} (more : List ℕ) → AreBytes more → SomeGoOn count (bytes ++ more)
-    → SomeGoOn count bytes
-before_those {bytes = bytes} more are o =
-    search (AreBytes-append more o.more are o.more_bytes, rw (append_assoc bytes more) at o.run)
+before_those : {allowed : Spelling} {count : ℕ} {bytes : List ℕ} (more : List ℕ) → AreBytes more
+    → SomeGoOn allowed count (bytes ++ more) → SomeGoOn allowed count bytes
+before_those {bytes = bytes} more are o = record {
+  more = more ++ o.more;
+  more_bytes = AreBytes-append more o.more are o.more_bytes;
+  marks = o.marks;
+  run = rw (append_assoc bytes more) at o.run;
+}
 
 zero_element : IsElement (0 ∷ []) (Plain (h.Positive 0) ∷ [])
 zero_element = plain (h.Positive 0) (numbered Unsigned Small 0 (omega arith)) tt
 
-pub run_goes : {count : ℕ} {bytes : List ℕ} {marks : List Mark} (left : ℕ) → RunLeft count left bytes marks
-    → SomeGoOn count bytes
-run_goes {marks = marks} zero r =
-    record { more = []; more_bytes = tt; marks = marks; run = rw append-nil (run_all r) }
-run_goes (suc left) r =
-    before_those (0 ∷ []) (omega arith, tt) (run_goes left (one_more r (omega arith) zero_element))
+pub run_goes : {allowed : Spelling} {count : ℕ} {bytes : List ℕ} {marks : List Mark} (left : ℕ)
+    → RunLeft count left bytes marks → Tight allowed bytes marks w.Nothing → SomeGoOn allowed count bytes
+run_goes {bytes = bytes} {marks = marks} zero r tight =
+    record { more = []; more_bytes = tt; marks = marks; run = rw (append-nil bytes) (all_taken r tight) }
+run_goes (suc left) r tight =
+    before_those (0 ∷ []) (omega arith, tt) (run_goes left (one_more r (omega arith) zero_element)
+    (tight_mark w.Nothing (Plain (h.Positive 0)) (0 ∷ []) tight (λ short. (refl, λ small. small, tt))))
 
-open_goes : {kind : Kind} {count left : ℕ} {bytes : List ℕ} {marks : List Mark} (more : ℕ)
-    → InOpen kind more count left bytes marks → 0 < left → SomeGoOn count bytes
-open_goes {left = left} zero o some =
-    before_those (0xff ∷ []) (omega arith, tt) (run_goes (left - 1) (closes_last o (omega (arith, some))))
-open_goes (suc more) o some = before_those (0xff ∷ []) (omega arith, tt) (open_goes more (closes o) some)
+open_goes : {allowed : Spelling} {kind : StringKind} {count left : ℕ} {bytes : List ℕ} {marks : List Mark} (more : ℕ)
+    → InOpen (kind_of kind) more count left bytes marks → 0 < left → Tight allowed bytes marks (w.Open kind more)
+    → SomeGoOn allowed count bytes
+open_goes {left = left} zero o some tight =
+    before_those (0xff ∷ []) (omega arith, tt) (run_goes (left - 1) (closes_last o (omega (arith, some)))
+    (tight_mark w.Nothing Close (0xff ∷ []) tight (λ short. (refl, tt, tt))))
+open_goes {kind = kind} (suc more) o some tight =
+    before_those (0xff ∷ []) (omega arith, tt)
+    (open_goes {kind = kind} more (closes o) some (λ short. absurd (tight short).flat))
 
-here_goes : {count left : ℕ} {bytes : List ℕ} {marks : List Mark} {i : Within} → Here count left bytes marks i
-    → SomeGoOn count bytes
-here_goes (between r some) = run_goes _ r
-here_goes (in_open {more = more} o some) = open_goes more o some
+here_goes : {allowed : Spelling} {count left : ℕ} {bytes : List ℕ} {marks : List Mark} {i : Within}
+    → Here allowed count left bytes marks i → SomeGoOn allowed count bytes
+here_goes (between r some tight) = run_goes _ r tight
+here_goes (in_open {kind = kind} {more = more} o some tight) = open_goes {kind = kind} more o some tight
 
-behind_goes : (i : Within) (count left : ℕ) (bytes : List ℕ) (marks : List Mark) → Behind i count left bytes marks
-    → SomeGoOn count bytes
-behind_goes w.Nothing count left bytes marks r = run_goes (left - 1) r
-behind_goes (w.Open kind more) count left bytes marks here = here_goes here
+behind_goes : (allowed : Spelling) (i : Within) (count left : ℕ) (bytes : List ℕ) (marks : List Mark)
+    → Behind allowed i count left bytes marks → SomeGoOn allowed count bytes
+behind_goes allowed w.Nothing count left bytes marks r = run_goes (left - 1) r.0 r.1
+behind_goes allowed (w.Open kind more) count left bytes marks here = here_goes here
 
 -- ---- a body
 
-body_goes : {kind : StringKind} {left count : ℕ} {bytes output : List ℕ} {spot : Spot} (end : List ℕ)
-    (o : Bodying kind left count bytes spot output) → length end ≡ left → AreBytes end
-    → IsWritable (kind_of kind) (o.part ++ (spot.front ++ end)) → SomeGoOn count bytes
+body_goes : {allowed : Spelling} {kind : StringKind} {left count : ℕ} {bytes output : List ℕ} {spot : Spot}
+    (end : List ℕ) (o : Bodying allowed kind left count bytes spot output) → length end ≡ left → AreBytes end
+    → IsWritable (kind_of kind) (o.part ++ (spot.front ++ end)) → SomeGoOn allowed count bytes
 body_goes {kind} {bytes = bytes} {spot = spot} end o long are sound =
     let whole = o.part ++ (spot.front ++ end) in
     let exact : o.len ≡ length whole =
@@ -77,8 +90,9 @@ body_goes {kind} {bytes = bytes} {spot = spot} end o long are sound =
       length-append spot.front end,
     ) in
     let all : bytes ++ end ≡ (o.before ++ o.title) ++ whole = simp (o.is, append_assoc) in
-    let behind = string_behind kind o.title whole o.begun.here o.begun.of_kind (rw exact at o.begun.is_title) sound in
-    before_those end are (rw all (behind_goes spot.within _ _ _ _ behind.behind))
+    let behind = string_behind kind o.title whole o.begun.here o.begun.of_kind (rw exact at o.begun.is_title)
+    (rw exact at o.begun.taken) sound in
+    before_those end are (rw all (behind_goes _ spot.within _ _ _ _ behind.behind))
 
 -- ---- the end of a text
 
@@ -115,9 +129,9 @@ end_of (suc n) state may =
       long = omega (arith, o.long);
     }
 
-text_goes : {left count : ℕ} {bytes output : List ℕ} {spot : Spot} {state : State}
-    → Bodying k.Text left count bytes spot output → state ≡ after s.Between spot.front → may_end state left ≡ true
-    → SomeGoOn count bytes
+text_goes : {allowed : Spelling} {left count : ℕ} {bytes output : List ℕ} {spot : Spot} {state : State}
+    → Bodying allowed k.Text left count bytes spot output → state ≡ after s.Between spot.front
+    → may_end state left ≡ true → SomeGoOn allowed count bytes
 text_goes {left} {spot = spot} {state = state} o state_is may =
     let end = end_of left state may in
     let all = spot.front ++ end.bytes in
@@ -130,40 +144,59 @@ abbrev pub NoFault : Phase → Type 0
 NoFault phase = (place : ℕ) × (phase ≡ p.Faulted place) → ⊥
 
 -- A spot without a fault goes on, if it does with a title due.
-goes_by : (phase : Phase) (count : ℕ) (bytes output : List ℕ) (spot : Spot)
-    → (Titling count bytes spot output → SomeGoOn count bytes) → HoldsIn phase count bytes spot output → NoFault phase
-    → SomeGoOn count bytes
-goes_by p.Title count bytes output spot title o goes = title o
-goes_by (p.Bytes left) count bytes output spot title o goes =
+goes_by : (allowed : Spelling) (phase : Phase) (count : ℕ) (bytes output : List ℕ) (spot : Spot)
+    → (Titling allowed count bytes spot output → SomeGoOn allowed count bytes)
+    → HoldsIn allowed phase count bytes spot output → NoFault phase → SomeGoOn allowed count bytes
+goes_by allowed p.Title count bytes output spot title o goes = title o
+goes_by allowed (p.Bytes left) count bytes output spot title o goes =
     body_goes (replicate left 0) o.0 (length-replicate {A = ℕ} left 0) (AreBytes-zeros left) tt
-goes_by (p.Text left state) count bytes output spot title o goes = text_goes o.0 o.1 o.2
-goes_by p.Ended count bytes output spot title o goes =
-    record { more = []; more_bytes = tt; marks = o.marks; run = rw append-nil o.run }
-goes_by (p.Faulted place) count bytes output spot title o goes = absurd (goes (place, refl))
+goes_by allowed (p.Text left state) count bytes output spot title o goes = text_goes o.0 o.1 o.2
+goes_by allowed p.Ended count bytes output spot title o goes =
+    record { more = []; more_bytes = tt; marks = o.marks; run = rw (append-nil bytes) o.run }
+goes_by allowed (p.Faulted place) count bytes output spot title o goes = absurd (goes (place, refl))
 
 -- A spot with a title due and an empty front goes on.
-clear_goes : {count : ℕ} {bytes output : List ℕ} {spot : Spot} → spot.front ≡ [] → Titling count bytes spot output
-    → SomeGoOn count bytes
+clear_goes : {allowed : Spelling} {count : ℕ} {bytes output : List ℕ} {spot : Spot} → spot.front ≡ []
+    → Titling allowed count bytes spot output → SomeGoOn allowed count bytes
 clear_goes bare o = rw (o.is, bare, append-nil o.before) (here_goes o.here)
 
-title_goes : {count : ℕ} {bytes output : List ℕ} {spot : Spot} → Titling count bytes spot output → SomeGoOn count bytes
-title_goes {count} {bytes} {output} {spot} o =
+-- The bytes of a title are bytes.
+affix_bytes : (size : Size) (n : ℕ) → AreBytes (affix_of size n)
+affix_bytes size n = grind arith
+
+major_below : (major : Major) → major_code major < 8
+major_below major = grind arith
+
+pub title_bytes : {title : List ℕ} {header : Header} → IsTitle title header → AreBytes title
+title_bytes (numbered major size n fits) =
+    (omega (arith, minor_below size n fits, major_below major), affix_bytes size n)
+title_bytes (alone major header is_open) = (omega (arith, major_below major), tt)
+
+bytes_behind : (front more : List ℕ) → AreBytes (front ++ more) → AreBytes more
+bytes_behind [] more are = are
+bytes_behind (b ∷ front) more are = bytes_behind front more are.1
+
+title_goes : {allowed : Spelling} {count : ℕ} {bytes output : List ℕ} {spot : Spot}
+    → Titling allowed count bytes spot output → SomeGoOn allowed count bytes
+title_goes {allowed} {count} {bytes} {output} {spot} o =
     elim o.front [
       | inl bare ↦ clear_goes bare o
       | inr f ↦ (
-          let end = continued spot.front (replicate 8 0) f.4 f.0 (AreBytes-zeros 8) f.1 (omega arith) in
-          let title = spot.front ++ end.more in
-          let old = clear p.Title spot.within spot.left (length o.before) (length (o.before ++ title)) [] in
-          let new = entered spot.within end.header old in
-          let all : bytes ++ end.more ≡ o.before ++ title = simp (o.is, append_assoc) in
-          let is = enters spot.within end.header old in
-          before_those end.more end.more_bytes (rw all (goes_by new.phase count (o.before ++ title) _ (putting [] new)
-          (clear_goes is.front) (title_leads count o.before title o.marks p.Title spot.left old.place old.offset
-          (some_due o.here) refl refl spot.within end.header o.here end.is_title)
-          (λ fault. f.2 end.more end.header end.is_title (is.faults fault))))
+          let (more, header, is_title, taken) = f.5 in
+          let title = spot.front ++ more in
+          let are = bytes_behind spot.front more (title_bytes is_title) in
+          let old = clear allowed p.Title spot.within spot.left (length o.before) (length (o.before ++ title)) [] in
+          let new = entered spot.within header old in
+          let all : bytes ++ more ≡ o.before ++ title = simp (o.is, append_assoc) in
+          let is = enters spot.within header old in
+          before_those more are (rw all (goes_by allowed new.phase count (o.before ++ title) _ (putting [] new)
+          (clear_goes is.front) (title_leads allowed count o.before title o.marks p.Title spot.left old.place old.offset
+          (some_due o.here) refl refl spot.within header o.here is_title taken)
+          (λ fault. f.2 more header is_title (is.faults fault))))
           )
     ]
 
-pub holds_goes : (phase : Phase) (count : ℕ) (bytes output : List ℕ) (spot : Spot)
-    → HoldsIn phase count bytes spot output → NoFault phase → SomeGoOn count bytes
-holds_goes phase count bytes output spot o goes = goes_by phase count bytes output spot title_goes o goes
+pub holds_goes : (allowed : Spelling) (phase : Phase) (count : ℕ) (bytes output : List ℕ) (spot : Spot)
+    → HoldsIn allowed phase count bytes spot output → NoFault phase → SomeGoOn allowed count bytes
+holds_goes allowed phase count bytes output spot o goes =
+    goes_by allowed phase count bytes output spot title_goes o goes

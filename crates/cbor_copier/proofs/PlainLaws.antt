@@ -8,8 +8,12 @@ use Rattle.std.proofs.lemmas.Bool.{agree_below_at}
 use Rattle.std.proofs.lemmas.Bool.Decides.{nat_tests}
 use Rattle.std.proofs.lemmas.List.{length-take-le}
 use Rattle.std.proofs.Math.Seq.{take-add}
+use Rattle.ciborium_ll_grammar.specs.declared.spelling.Spelling.{Spelling}
+use Rattle.ciborium_ll_grammar.specs.declared.spelling.Spelling.TheVariants.{Any, Shortest}
 use Rattle.ciborium_ll_grammar.specs.declared.hdr.Header.{Header}
+use Rattle.ciborium_ll_grammar.specs.Items.{IsTakenTitle}
 use Rattle.ciborium_ll_grammar.specs.declared.hdr.Header.TheVariants as h
+use Rattle.ciborium_ll_grammar.specs.Title.{IsSmallSimple, IsStrictTitle}
 use Rattle.ciborium_ll_grammar.specs.Title.{IsTitle, Major, Unsigned, Negative, ByteString, TextString, Array, Map, Tag}
 use Rattle.ciborium_ll_grammar.specs.Title.{Other, Small, major_code, numbered, numbered_header, shortest_title}
 use Rattle.ciborium_ll_grammar.specs.Title.{Size, One, Two, Four, Eight, least_size, affix_len, affix_of, alone}
@@ -31,15 +35,16 @@ use Rattle.ciborium_ll_text.proofs.Lists.{Below, below_rest, below_take}
 use Rattle.ciborium_ll_text.proofs.StateLaws.{after-append, text_ends, text_from}
 use Rattle.cbor_copier.specs.declared.phase.Phase.{Phase}
 use Rattle.cbor_copier.specs.declared.phase.Phase.TheVariants as p
-use Rattle.cbor_copier.specs.declared.phase.StringKind.{StringKind}
-use Rattle.cbor_copier.specs.declared.phase.StringKind.TheVariants as k
-use Rattle.cbor_copier.specs.declared.phase.Within.TheVariants as w
+use Rattle.cbor_parser.specs.declared.strings.StringKind.{StringKind}
+use Rattle.cbor_parser.specs.declared.strings.StringKind.TheVariants as k
+use Rattle.cbor_parser.specs.declared.strings.Within.TheVariants as w
 use Rattle.cbor_copier.specs.declared.plain.TheConstants.{LENS}
 use Rattle.cbor_copier.specs.Plain.{AreKept, IsKept, IsLen, bare, one, more}
 use Rattle.cbor_copier.specs.Spots.{Spot, IsPutOut, at_phase, body_due, body_phase, element_done, elements_due, entered}
 use Rattle.cbor_copier.specs.Spots.{header_entered, putting}
 use Rattle.cbor_copier.specs.Steps.{IsFed, counted_by}
 use Rattle.cbor_copier.proofs.RunLaws.{body_given, title_given}
+use Rattle.cbor_copier.proofs.StepLaws.{fed_allowed}
 
 -- ---- the table
 
@@ -74,128 +79,147 @@ due_put : (left : ℕ) (out : List ℕ) (spot : Spot) → (elements_due left (pu
 due_put zero out spot = refl
 due_put (suc left) out spot = refl
 
-due_clear : (left n place offset : ℕ) (out : List ℕ)
-    → putting [] (elements_due left (putting out (bare n place offset))) ≡ elements_due left (bare n place offset)
-due_clear zero n place offset out = refl
-due_clear (suc left) n place offset out = refl
+due_clear : (allowed : Spelling) (left n place offset : ℕ) (out : List ℕ)
+    → putting [] (elements_due left (putting out (bare allowed n place offset)))
+    ≡ elements_due left (bare allowed n place offset)
+due_clear allowed zero n place offset out = refl
+due_clear allowed (suc left) n place offset out = refl
 
-due_left : (left n m place offset : ℕ)
-    → elements_due left (bare n place offset) ≡ elements_due left (bare m place offset)
-due_left zero n m place offset = refl
-due_left (suc left) n m place offset = refl
+due_left : (allowed : Spelling) (left n m place offset : ℕ)
+    → elements_due left (bare allowed n place offset) ≡ elements_due left (bare allowed m place offset)
+due_left allowed zero n m place offset = refl
+due_left allowed (suc left) n m place offset = refl
 
-bare_put : (left n place offset : ℕ) → (elements_due left (bare n place offset)).put ≡ []
-bare_put zero n place offset = refl
-bare_put (suc left) n place offset = refl
+bare_put : (allowed : Spelling) (left n place offset : ℕ) → (elements_due left (bare allowed n place offset)).put ≡ []
+bare_put allowed zero n place offset = refl
+bare_put allowed (suc left) n place offset = refl
 
-bare_clear : (left n place offset : ℕ)
-    → putting [] (elements_due left (bare n place offset)) ≡ elements_due left (bare n place offset)
-bare_clear zero n place offset = refl
-bare_clear (suc left) n place offset = refl
+bare_clear : (allowed : Spelling) (left n place offset : ℕ)
+    → putting [] (elements_due left (bare allowed n place offset)) ≡ elements_due left (bare allowed n place offset)
+bare_clear allowed zero n place offset = refl
+bare_clear allowed (suc left) n place offset = refl
 
-due_none : (left n place offset : ℕ) (phase : Phase)
-    → (elements_due left (at_phase phase (bare n place offset))).put ≡ []
-due_none zero n place offset phase = refl
-due_none (suc left) n place offset phase = refl
+due_none : (allowed : Spelling) (left n place offset : ℕ) (phase : Phase)
+    → (elements_due left (at_phase phase (bare allowed n place offset))).put ≡ []
+due_none allowed zero n place offset phase = refl
+due_none allowed (suc left) n place offset phase = refl
 
 first_below : (b : ℕ) (xs : List ℕ) → Below (b ∷ xs) → Below (b ∷ [])
 first_below b xs below zero less = below zero (omega arith)
 first_below b xs below (suc i) less = absurd (omega (arith, less))
 
-due_phase : (left n place offset : ℕ) (phase : Phase)
-    → putting [] (elements_due left (at_phase phase (bare n place offset))) ≡ elements_due left (bare n place offset)
-due_phase zero n place offset phase = refl
-due_phase (suc left) n place offset phase = refl
+due_phase : (allowed : Spelling) (left n place offset : ℕ) (phase : Phase)
+    → putting [] (elements_due left (at_phase phase (bare allowed n place offset)))
+    ≡ elements_due left (bare allowed n place offset)
+due_phase allowed zero n place offset phase = refl
+due_phase allowed (suc left) n place offset phase = refl
 
--- A title of one byte is the shortest of its header.
-one_shortest : (b : ℕ) (header : Header) → IsTitle (b ∷ []) header → b ∷ [] ≡ shortest_title header
-one_shortest b header q = tight_title (b ∷ []) header q (shortest_some header)
+-- A strict title is taken in both spellings.
+strictly_taken : (allowed : Spelling) (title : List ℕ) (header : Header) → IsStrictTitle title header
+    → IsTakenTitle allowed title header
+strictly_taken Any title header strict = tt
+strictly_taken Shortest title header strict = strict
 
--- A title that begins no string and is the shortest of its header is kept.
+-- A strict title that begins no string is kept.
 kept_title : (title : List ℕ) (header : Header) → Below title → 0 < length title → IsTitle title header
-    → title ≡ shortest_title header → ((spot : Spot) → header_entered header spot ≡ element_done spot) → IsKept title
-kept_title title header below some is shortest ends count left place offset fed out led =
+    → IsStrictTitle title header → ((spot : Spot) → header_entered header spot ≡ element_done spot) → IsKept title
+kept_title title header below some is strict ends allowed count left place offset fed out led =
     let n = length title in
-    let at = bare left offset (offset + n) in
+    let at = bare allowed left offset (offset + n) in
     let new = element_done (putting (shortest_title header) at) in
     let put : title ++ [] ≡ [] ++ new.put =
-    append-nil title ∙ (shortest ∙ sym (due_put (left - 1) (shortest_title header) at)) in
-    let gone = title_given count n title header (bare left place offset) new fed out [] title [] below some refl is refl
+    append-nil title ∙ (strict.shortest ∙ sym (due_put (left - 1) (shortest_title header) at)) in
+    let gone = title_given allowed count n title header (bare allowed left place offset) new fed out [] title [] below
+    some refl is (strictly_taken allowed title header strict) refl
     refl refl refl (sym (ends (putting (shortest_title header) at))) put
     (rw (append-nil (out ++ []), append-nil out) led) in
-    rw (append-nil (out ++ title), due_clear (left - 1) left offset (offset + n) (shortest_title header)) at gone
+    rw (append-nil (out ++ title), due_clear allowed (left - 1) left offset (offset + n) (shortest_title header)) at gone
 
 -- The header of a string of this length.
 abbrev string_of : StringKind → ℕ → Header
 string_of k.Bytes len = h.Bytes (Some len)
 string_of k.Text len = h.Text (Some len)
 
+string_meant : (kind : StringKind) (len : ℕ) → IsSmallSimple (string_of kind len) → ⊥
+string_meant k.Bytes len small = small
+string_meant k.Text len small = small
+
+-- A title of one byte that begins a string is the only one that a strict copier takes.
+string_strict : (kind : StringKind) (len b : ℕ) → IsTitle (b ∷ []) (string_of kind len)
+    → IsStrictTitle (b ∷ []) (string_of kind len)
+string_strict k.Bytes len b q =
+    record { shortest = tight_title (b ∷ []) _ q (shortest_some (h.Bytes (Some len))); meant = λ small. small }
+string_strict k.Text len b q =
+    record { shortest = tight_title (b ∷ []) _ q (shortest_some (h.Text (Some len))); meant = λ small. small }
+
 enters_string : (kind : StringKind) (len : ℕ) (spot : Spot) → header_entered (string_of kind len) spot
     ≡ body_due kind len (record spot { place = spot.offset - length (shortest_title (string_of kind len)) })
 enters_string k.Bytes len spot = refl
 enters_string k.Text len spot = refl
 
-body_put : (kind : StringKind) (len : ℕ) (out : List ℕ) (left place offset : ℕ)
-    → (body_due kind len (putting out (bare left place offset))).put ≡ out
-body_put kind zero out left place offset = due_put (left - 1) out (bare left place offset)
-body_put kind (suc len) out left place offset = refl
+body_put : (allowed : Spelling) (kind : StringKind) (len : ℕ) (out : List ℕ) (left place offset : ℕ)
+    → (body_due kind len (putting out (bare allowed left place offset))).put ≡ out
+body_put allowed kind zero out left place offset = due_put (left - 1) out (bare allowed left place offset)
+body_put allowed kind (suc len) out left place offset = refl
 
 -- After the title of a string, its body leads to the spot after the element.
 string_on : (kind : StringKind) (title body : List ℕ) → Below body → IsPutOut kind body
-    → (count left offset : ℕ) (fed out put : List ℕ)
-    → IsFed count (fed ++ title)
-    (putting [] (body_due kind (length body) (putting put (bare left offset (offset + length title))))) (out ++ title)
-    → IsFed count (fed ++ (title ++ body)) (elements_due (left - 1)
-    (bare left offset (offset + length (title ++ body))))
+    → (allowed : Spelling) (count left offset : ℕ) (fed out put : List ℕ)
+    → IsFed allowed count (fed ++ title)
+    (putting [] (body_due kind (length body) (putting put (bare allowed left offset (offset + length title)))))
+    (out ++ title)
+    → IsFed allowed count (fed ++ (title ++ body)) (elements_due (left - 1)
+    (bare allowed left offset (offset + length (title ++ body))))
     (out ++ (title ++ body))
-string_on kind title [] below whole count left offset fed out put led =
-    rw (append-nil title) (rw (due_clear (left - 1) left offset (offset + length title) put) at led)
-string_on kind title (x ∷ xs) below whole count left offset fed out put led =
+string_on kind title [] below whole allowed count left offset fed out put led =
+    rw (append-nil title) (rw (due_clear allowed (left - 1) left offset (offset + length title) put) at led)
+string_on kind title (x ∷ xs) below whole allowed count left offset fed out put led =
     let n = length (x ∷ xs) in
     let m = length title in
     let phase = body_phase kind n in
-    let spot = at_phase phase (bare left offset (offset + m)) in
+    let spot = at_phase phase (bare allowed left offset (offset + m)) in
     let far : offset + length (title ++ (x ∷ xs)) ≡ (offset + m) + n = omega (arith, length-append title (x ∷ xs)) in
     let none : n - n ≡ 0 = omega arith in
     let new = element_done (counted_by n spot) in
-    let gone = body_given kind count n (x ∷ xs) spot new (fed ++ title) (out ++ title) [] (x ∷ xs)
+    let gone = body_given allowed kind count n (x ∷ xs) spot new (fed ++ title) (out ++ title) [] (x ∷ xs)
     below refl refl refl (omega arith) (omega arith) whole (rw none refl) refl
     (rw (append-nil ((out ++ title) ++ []), append-nil (out ++ title)) led) in
     rw (
       far,
       ← append_assoc fed title (x ∷ xs),
       ← append_assoc out title (x ∷ xs),
-      ← due_phase (left - 1) left offset
+      ← due_phase allowed (left - 1) left offset
           ((offset + m) + n) phase,
     )
-    (rw (due_none (left - 1) left offset ((offset + m) + n) phase, append-nil ((out ++ title) ++ (x ∷ xs))) at gone)
+    (rw (due_none allowed (left - 1) left offset ((offset + m) + n) phase, append-nil ((out ++ title) ++ (x ∷ xs))) at gone)
 
--- A string whose title is the shortest of its header is kept.
+-- A string with a strict title is kept.
 kept_titled : (kind : StringKind) (title body : List ℕ) → Below title → Below body → 0 < length title
-    → IsTitle title (string_of kind (length body)) → title ≡ shortest_title (string_of kind (length body))
+    → IsTitle title (string_of kind (length body)) → IsStrictTitle title (string_of kind (length body))
     → IsPutOut kind body → IsKept (title ++ body)
-kept_titled kind title body below within some is short whole count left place offset fed out led =
+kept_titled kind title body below within some is strict whole allowed count left place offset fed out led =
     let header = string_of kind (length body) in
     let n = length title in
     let out1 = shortest_title header in
-    let at = bare left offset (offset + n) in
+    let at = bare allowed left offset (offset + n) in
     let new = body_due kind (length body) (putting out1 at) in
-    let long : n ≡ length out1 = ap (length {A = ℕ}) short in
+    let long : n ≡ length out1 = ap (length {A = ℕ}) strict.shortest in
     let here : (offset + n) - length out1 ≡ offset = omega (arith, long) in
     let there : new ≡ entered w.Nothing header at =
     sym (enters_string kind (length body) (putting out1 at)
     ∙ ap (λ (z : ℕ). body_due kind (length body) (record (putting out1 at) { place = z })) here) in
     let put : title ++ [] ≡ [] ++ new.put =
-    append-nil title ∙ (short ∙ sym (body_put kind (length body) out1 left offset (offset + n))) in
-    let gone = title_given count n title header (bare left place offset) new fed out [] title []
-    below some refl is refl refl refl refl there put (rw (append-nil (out ++ []), append-nil out) led) in
-    string_on kind title body within whole count left offset fed out out1 (rw (append-nil (out ++ title)) at gone)
+    append-nil title ∙ (strict.shortest ∙ sym (body_put allowed kind (length body) out1 left offset (offset + n))) in
+    let gone = title_given allowed count n title header (bare allowed left place offset) new fed out [] title []
+    below some refl is (strictly_taken allowed title header strict) refl refl refl refl there put
+    (rw (append-nil (out ++ []), append-nil out) led) in
+    string_on kind title body within whole allowed count left offset fed out out1 (rw (append-nil (out ++ title)) at gone)
 
 kept_string : (kind : StringKind) (b : ℕ) (body : List ℕ) → Below (b ∷ body)
     → IsTitle (b ∷ []) (string_of kind (length body)) → IsPutOut kind body → IsKept (b ∷ body)
 kept_string kind b body below is whole =
     kept_titled kind (b ∷ []) body (first_below b body below) (below_rest b body below) (omega arith) is
-    (one_shortest b (string_of kind (length body)) is) whole
+    (string_strict kind (length body) b is) whole
 
 -- ---- the element of a first byte, by the number in the table
 
@@ -223,6 +247,12 @@ small_title b major is small =
     let parts : 32 * major_code major + b % 32 ≡ b = omega (arith, is) in
     rw parts at (numbered major Small (b % 32) small)
 
+small_strict : (b : ℕ) (major : Major) → major_code major ≡ b / 32 → b % 32 < 24
+    → IsStrictTitle (b ∷ []) (numbered_header major Small (b % 32))
+small_strict b major is small =
+    let parts : 32 * major_code major + b % 32 ≡ b = omega (arith, is) in
+    rw parts at (taken major Small (b % 32) small refl)
+
 -- Bytes of the length in the table are kept, if a text's body is text.
 pub kept_by : (xs : List ℕ) (len : ℕ) → Below xs → 0 < length xs → IsLen (slice_index xs 0) len → 0 < len
     → len ≤ length xs → (slice_index xs 0 / 32 ≡ 3 → IsCharacters (take (len - 1) (drop 1 xs))) → IsKept (take len xs)
@@ -232,8 +262,8 @@ kept_by (b ∷ xs) len below some (inr (inl v)) least le text =
     let m = major_of (b / 32) (omega (arith, below 0 (omega arith))) v.2 v.3 in
     let title = small_title b m.major m.is v.1 in
     let header = numbered_header m.major Small (b % 32) in
-    rw v.0 (kept_title (b ∷ []) header (first_below b xs below) (omega arith) title (one_shortest b header title)
-    (m.ends (b % 32)))
+    rw v.0 (kept_title (b ∷ []) header (first_below b xs below) (omega arith) title
+    (small_strict b m.major m.is v.1) (m.ends (b % 32)))
 kept_by (b ∷ xs) len below some (inr (inr v)) least le text =
     let n = b % 32 in
     let e : len ≡ suc n = omega (arith, v.0) in
@@ -265,44 +295,47 @@ kept_more last most left (suc at) len xs le some fits none so_far item =
     rw (take-add (suc at) len xs) (rw (count, length-take-le (suc at) xs le) at (more (so_far (omega arith)) item))
 
 -- Kept elements lead to the spot after them, and go out as they are.
-pub kept_run : (n last : ℕ) (xs : List ℕ) → AreKept n last xs → (count left place offset : ℕ) (fed out : List ℕ)
-    → n ≤ left → IsFed count fed (bare left place offset) out
-    → IsFed count (fed ++ xs) (elements_due (left - n) (bare left (offset + last) (offset + length xs))) (out ++ xs)
-kept_run n last xs (one item) count left place offset fed out some led =
+pub kept_run : (n last : ℕ) (xs : List ℕ) → AreKept n last xs → (allowed : Spelling) (count left place offset : ℕ)
+    (fed out : List ℕ) → n ≤ left → IsFed allowed count fed (bare allowed left place offset) out
+    → IsFed allowed count (fed ++ xs)
+    (elements_due (left - n) (bare allowed left (offset + last) (offset + length xs))) (out ++ xs)
+kept_run n last xs (one item) allowed count left place offset fed out some led =
     let here : offset ≡ offset + 0 = omega arith in
-    rw (← here) (item count left place offset fed out led)
-kept_run n last xs (more {count = before} {last = last'} {bytes} {item} run kept) count left place offset fed out some led =
+    rw (← here) (item allowed count left place offset fed out led)
+kept_run n last xs (more {count = before} {last = last'} {bytes} {item} run kept) allowed count left place offset fed out
+    some led =
     let m = left - suc before in
     let still : left - before ≡ suc m = omega (arith, some) in
     let less : before ≤ left = omega (arith, some) in
     let back : suc m - 1 ≡ m = omega arith in
     let far : (offset + length bytes) + length item ≡ offset + length (bytes ++ item) =
     omega (arith, length-append bytes item) in
-    let gone = kept_run before last' bytes run count left place offset fed out less led in
-    let next = kept count (suc m) (offset + last') (offset + length bytes) (fed ++ bytes) (out ++ bytes) (rw still at gone) in
+    let gone = kept_run before last' bytes run allowed count left place offset fed out less led in
+    let next = kept allowed count (suc m) (offset + last') (offset + length bytes) (fed ++ bytes) (out ++ bytes) (rw still at gone) in
     rw (← append_assoc fed bytes item, ← append_assoc out bytes item)
-    (rw (back, due_left m (suc m) left (offset + length bytes) ((offset + length bytes) + length item), far) at next)
+    (rw (back, due_left allowed m (suc m) left (offset + length bytes) ((offset + length bytes) + length item), far) at next)
 
 -- A run of kept elements is given at once. `front` is the part of the room that was written before, and `end` is the
 -- part that is written then.
-pub run_given : (count n last left : ℕ) (xs : List ℕ) (spot new : Spot) (fed given front end : List ℕ) → AreKept n last xs
+pub run_given : (allowed : Spelling) (count n last left : ℕ) (xs : List ℕ) (spot new : Spot) (fed given front end : List ℕ) → AreKept n last xs
     → spot.phase ≡ p.Title → spot.within ≡ w.Nothing → spot.front ≡ [] → spot.put ≡ [] → n ≡ spot.left - left
     → left ≤ spot.left
     → new ≡ elements_due left (record spot { place = spot.offset + last; offset = spot.offset + length xs })
-    → end ≡ front ++ xs → IsFed count fed (putting [] spot) ((given ++ front) ++ spot.put)
-    → IsFed count (fed ++ xs) (putting [] new) ((given ++ end) ++ new.put)
-run_given count n last left xs spot new fed given front end run at inside clear none counts fits e all is =
-    let begin : putting [] spot ≡ bare spot.left spot.place spot.offset = rw (at, inside, clear) in
+    → end ≡ front ++ xs → IsFed allowed count fed (putting [] spot) ((given ++ front) ++ spot.put)
+    → IsFed allowed count (fed ++ xs) (putting [] new) ((given ++ end) ++ new.put)
+run_given allowed count n last left xs spot new fed given front end run at inside clear none counts fits e all is =
+    let same : spot.allowed ≡ allowed = fed_allowed allowed count fed _ (putting [] spot) is in
+    let begin : putting [] spot ≡ bare allowed spot.left spot.place spot.offset = rw (at, inside, clear, same) in
     let still : spot.left - n ≡ left = omega (arith, counts, fits) in
-    let there : new ≡ elements_due left (bare spot.left (spot.offset + last) (spot.offset + length xs)) =
-    e ∙ rw (at, inside, clear, none) in
-    let behind = kept_run n last xs run count spot.left spot.place spot.offset fed (given ++ front)
+    let there : new ≡ elements_due left (bare allowed spot.left (spot.offset + last) (spot.offset + length xs)) =
+    e ∙ rw (at, inside, clear, none, same) in
+    let behind = kept_run n last xs run allowed count spot.left spot.place spot.offset fed (given ++ front)
     (omega (arith, counts)) (rw (begin, none, append-nil (given ++ front)) at is) in
     rw (
       there,
       all,
-      bare_put left spot.left (spot.offset + last) (spot.offset + length xs),
-      bare_clear left spot.left (spot.offset + last) (spot.offset + length xs),
+      bare_put allowed left spot.left (spot.offset + last) (spot.offset + length xs),
+      bare_clear allowed left spot.left (spot.offset + last) (spot.offset + length xs),
       append-nil (given ++ (front ++ xs)),
       ← append_assoc given front xs,
     ) (rw still at behind)
@@ -381,7 +414,7 @@ kept_wide t header b v (numbered k s n fits) e below least most two three stays 
     let tail : affix_of s n ≡ v = cc in
     let code : major_code k ≡ b / 32 = omega (arith, head, minor_below s n fits) in
     kept_title (numbered_title k s n) (numbered_header k s n) below (omega arith) (numbered k s n fits)
-    (taken k s n fits (short_by k s n b v fits head tail stays)).shortest
+    (taken k s n fits (short_by k s n b v fits head tail stays))
     (ends_plain k s n (λ is. two (sym code ∙ is)) (λ is. three (sym code ∙ is)))
 
 none_long : (minor : ℕ) → 24 ≤ minor → minor < 28 → affix_len minor ≡ 0 → ⊥
@@ -491,9 +524,11 @@ long_kept kind b n xs major below is at least le header short whole =
     let size : least_size n ≡ One = grind (arith, nat_tests) in
     let is_title : IsTitle (b ∷ n ∷ []) (string_of kind n) = rw (title, header) at (numbered major One n less) in
     let spelled : b ∷ n ∷ [] ≡ shortest_title (string_of kind n) = sym (short ∙ (rw size refl ∙ title)) in
+    let strict : IsStrictTitle (b ∷ n ∷ []) (string_of kind n) =
+    record { shortest = spelled; meant = string_meant kind n } in
     kept_titled kind (b ∷ n ∷ []) (take n xs) (two_below b n xs below)
     (below_take n xs le (below_rest n xs (below_rest b (n ∷ xs) below))) (omega arith) (rw long is_title)
-    (rw long spelled) whole
+    (rw long strict) whole
 
 -- A string whose length stands in one byte is kept, if its title is the shortest and a text's body is text.
 pub long_string : (xs : List ℕ) (b : ℕ) → Below xs → slice_index xs 0 ≡ b → (b / 32 ≡ 2) ⊎ (b / 32 ≡ 3)

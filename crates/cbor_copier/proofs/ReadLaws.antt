@@ -6,8 +6,9 @@ use Rattle.std.proofs.lemmas.Bool.{cases_lt}
 use Rattle.std.proofs.lemmas.List.{take-append-drop, take-append-le, length-take-le}
 use Rattle.std.proofs.Math.Nat.{eq-or-lt_of_le}
 use Rattle.std.proofs.Math.Seq.{take-append-add, take-length}
+use Rattle.ciborium_ll_grammar.specs.declared.spelling.Spelling.{Spelling}
 use Rattle.ciborium_ll_grammar.specs.Title.{AreBytes}
-use Rattle.ciborium_ll_grammar.specs.Elements.{Mark, IsRun, spelling}
+use Rattle.ciborium_ll_grammar.specs.Elements.{Mark, spelling}
 use Rattle.ciborium_ll_text.proofs.Lists.{same_front}
 use Rattle.cbor_copier.specs.declared.copier.Copier.{Copier}
 use Rattle.cbor_copier.specs.declared.phase.Phase.{Phase}
@@ -16,7 +17,7 @@ use Rattle.cbor_copier.specs.declared.progress.Copied.{Copied}
 use Rattle.cbor_copier.specs.declared.progress.Progress.{Progress}
 use Rattle.cbor_copier.specs.declared.progress.Progress.TheVariants as r
 use Rattle.cbor_copier.specs.Copying.{Answers, AnswersPiece, HasCopied, held, pending, spot_of}
-use Rattle.cbor_copier.specs.Reading.{Copies, GoesOn, IsLast, IsMore, IsRoom, Tells, TellsWhole}
+use Rattle.cbor_copier.specs.Reading.{IsTakenRun, Copies, GoesOn, IsLast, IsMore, IsRoom, Tells, TellsWhole}
 use Rattle.cbor_copier.specs.Spots.{Spot, putting}
 use Rattle.cbor_copier.specs.Steps.{StepIn, IsFed, start, fresh, more}
 use Rattle.cbor_copier.specs.Telling.{EndedIn, IsAnswer, is_due, progress_in, progress_of}
@@ -26,18 +27,18 @@ use Rattle.cbor_copier.proofs.TellLaws.{ended_exact, spelled_on, told}
 
 -- ---- the beginnings of the bytes
 
-goes_in : (phase : Phase) (count : ℕ) (bytes output : List ℕ) → TellsWhole count bytes output (progress_in phase)
-    → is_due phase ≡ true → EndedIn phase ↔ ((marks : List Mark) × IsRun count bytes marks) → GoesOn count bytes
-goes_in p.Ended count bytes output says due exact = absurd cc
-goes_in (p.Faulted place) count bytes output says due exact = absurd cc
-goes_in phase count bytes output says due exact =
+goes_in : (allowed : Spelling) (phase : Phase) (count : ℕ) (bytes output : List ℕ) → TellsWhole allowed count bytes output (progress_in phase)
+    → is_due phase ≡ true → EndedIn phase ↔ ((marks : List Mark) × IsTakenRun allowed count bytes marks) → GoesOn allowed count bytes
+goes_in allowed p.Ended count bytes output says due exact = absurd cc
+goes_in allowed (p.Faulted place) count bytes output says due exact = absurd cc
+goes_in allowed phase count bytes output says due exact =
     record { begins = says.1; unended = λ marks run. exact.1 (marks, run) }
 
 -- The elements go on if more bytes are due.
-goes_on : (count : ℕ) (fed output : List ℕ) (spot : Spot) → IsFed count fed spot output → is_due spot.phase ≡ true
-    → GoesOn count fed
-goes_on count fed output spot is due =
-    goes_in spot.phase count fed output (told is) due (ended_exact count fed output spot is)
+goes_on : (allowed : Spelling) (count : ℕ) (fed output : List ℕ) (spot : Spot) → IsFed allowed count fed spot output → is_due spot.phase ≡ true
+    → GoesOn allowed count fed
+goes_on allowed count fed output spot is due =
+    goes_in allowed spot.phase count fed output (told is) due (ended_exact allowed count fed output spot is)
 
 step_due : (phase : Phase) (spot new : Spot) (b : ℕ) → StepIn phase spot b new → is_due phase ≡ true
 step_due p.Ended spot new b step = absurd step
@@ -45,16 +46,16 @@ step_due (p.Faulted place) spot new b step = absurd step
 step_due phase spot new b step = refl
 
 -- After fewer bytes the elements go on.
-fed_before : (count : ℕ) (fed output : List ℕ) (spot : Spot) → IsFed count fed spot output → (len : ℕ)
-    → len < length fed → GoesOn count (take len fed)
-fed_before count fed output spot fresh len less = absurd (omega (arith, less))
-fed_before count fed output spot (more {bytes = a} {output = before} {spot = u} b new byte is step) len less =
+fed_before : (allowed : Spelling) (count : ℕ) (fed output : List ℕ) (spot : Spot) → IsFed allowed count fed spot output → (len : ℕ)
+    → len < length fed → GoesOn allowed count (take len fed)
+fed_before allowed count fed output spot fresh len less = absurd (omega (arith, less))
+fed_before allowed count fed output spot (more {bytes = a} {output = before} {spot = u} b new byte is step) len less =
     let short : len ≤ length a = omega (arith, less, length-append a (b ∷ [])) in
     rw (take-append-le len a (b ∷ []) short) (elim (eq-or-lt_of_le short) [
       | inl all ↦
           let whole : take len a ≡ a = ap (λ (n : ℕ). take n a) all ∙ take-length a in
-          rw whole (goes_on count a before u is (step_due u.phase u new b step))
-      | inr early ↦ fed_before count a before u is len early
+          rw whole (goes_on allowed count a before u is (step_due u.phase u new b step))
+      | inr early ↦ fed_before allowed count a before u is len early
     ])
 
 -- ---- a piece
@@ -66,18 +67,18 @@ take_take len taken piece less most =
     sym (take-append-le len (take taken piece) (drop taken piece) long)
     ∙ ap (λ (z : List ℕ). take len z) (take-append-drop taken piece)
 
-pub copies : (count : ℕ) (read written piece put output : List ℕ) (copied : Copied) (new : Spot)
+pub copies : (allowed : Spelling) (count : ℕ) (read written piece put output : List ℕ) (copied : Copied) (new : Spot)
     → copied.taken ≤ length piece → (IsMore copied.progress → copied.taken ≡ length piece)
     → (copied.progress ≡ r.TooLong → copied.taken < length piece)
-    → IsFed count (read ++ take copied.taken piece) new output
-    → Tells count (read ++ take copied.taken piece) (written ++ put) copied.progress
-    → Copies count read written piece put copied
-copies count read written piece put output copied new taken all long fed tells =
+    → IsFed allowed count (read ++ take copied.taken piece) new output
+    → Tells allowed count (read ++ take copied.taken piece) (written ++ put) copied.progress
+    → Copies allowed count read written piece put copied
+copies allowed count read written piece put output copied new taken all long fed tells =
     let part = length-take-le copied.taken piece taken in
     let whole = length-append read (take copied.taken piece) in record {
       taken = taken;
       goes = λ len less.
-          let before = fed_before count (read ++ take copied.taken piece) output new fed (length read + len)
+          let before = fed_before allowed count (read ++ take copied.taken piece) output new fed (length read + len)
           (omega (arith, less, part, whole)) in
           rw (
             take-append-add read (take copied.taken piece) len,
@@ -156,11 +157,11 @@ last_stays progress (r.Syntax place) old new is last same answers =
 
 -- ---- pieces are joined
 
-module _ (count : ℕ) (read written one two put more : List ℕ) where
+module _ (allowed : Spelling) (count : ℕ) (read written one two put more : List ℕ) where
   -- The first piece is taken whole.
-  pub joined : (first second all : Copied) → Copies count read written one put first → first.taken ≡ length one
-      → Copies count (read ++ one) (written ++ put) two more second → all.taken ≡ length one + second.taken
-      → all.progress ≡ second.progress → Copies count read written (one ++ two) (put ++ more) all
+  pub joined : (first second all : Copied) → Copies allowed count read written one put first → first.taken ≡ length one
+      → Copies allowed count (read ++ one) (written ++ put) two more second → all.taken ≡ length one + second.taken
+      → all.progress ≡ second.progress → Copies allowed count read written (one ++ two) (put ++ more) all
   joined first second all a whole b is same =
       let long = length-append one two in
       let split : (k : ℕ) → read ++ take (length one + k) (one ++ two) ≡ (read ++ one) ++ take k two =
@@ -180,10 +181,10 @@ module _ (count : ℕ) (read written one two put more : List ℕ) where
       }
 
 -- The first piece has all that is taken.
-pub kept_in : (count : ℕ) (read written one two put : List ℕ) (copied : Copied)
-    → Copies count read written one put copied → (IsMore copied.progress → ⊥)
-    → Copies count read written (one ++ two) put copied
-kept_in count read written one two put copied a none =
+pub kept_in : (allowed : Spelling) (count : ℕ) (read written one two put : List ℕ) (copied : Copied)
+    → Copies allowed count read written one put copied → (IsMore copied.progress → ⊥)
+    → Copies allowed count read written (one ++ two) put copied
+kept_in allowed count read written one two put copied a none =
     let long = length-append one two in
     let same : (k : ℕ) → k ≤ copied.taken → take k (one ++ two) ≡ take k one =
     λ k less. take-append-le k one two (omega (arith, less, a.taken)) in
@@ -197,24 +198,24 @@ kept_in count read written one two put copied a none =
 
 -- ---- the same bytes, the same output and answer
 
-one_read : (count : ℕ) (read written others : List ℕ) (one other : Copier) → HasCopied count read written one
-    → HasCopied count read others other
+one_read : (allowed : Spelling) (count : ℕ) (read written others : List ℕ) (one other : Copier) → HasCopied allowed count read written one
+    → HasCopied allowed count read others other
     → (putting [] (spot_of one) ≡ putting [] (spot_of other)) × (written ++ one.pending ≡ others ++ other.pending)
 unfolding HasCopied
-one_read count read written others one other a b =
-    one_spot count read (written ++ one.pending) (others ++ other.pending) (putting [] (spot_of one))
+one_read allowed count read written others one other a b =
+    one_spot allowed count read (written ++ one.pending) (others ++ other.pending) (putting [] (spot_of one))
     (putting [] (spot_of other)) a b
 
-pub one_output : (count : ℕ) (read written others : List ℕ) (one other : Copier) → HasCopied count read written one
-    → HasCopied count read others other → written ++ pending one ≡ others ++ pending other
+pub one_output : (allowed : Spelling) (count : ℕ) (read written others : List ℕ) (one other : Copier) → HasCopied allowed count read written one
+    → HasCopied allowed count read others other → written ++ pending one ≡ others ++ pending other
 unfolding pending
-one_output count read written others one other a b = (one_read count read written others one other a b).1
+one_output allowed count read written others one other a b = (one_read allowed count read written others one other a b).1
 
-pub one_held : (count : ℕ) (read written others : List ℕ) (one other : Copier) → HasCopied count read written one
-    → HasCopied count read others other → length written + held one ≡ length others + held other
+pub one_held : (allowed : Spelling) (count : ℕ) (read written others : List ℕ) (one other : Copier) → HasCopied allowed count read written one
+    → HasCopied allowed count read others other → length written + held one ≡ length others + held other
 unfolding held
-one_held count read written others one other a b =
-    let same = one_read count read written others one other a b in
+one_held allowed count read written others one other a b =
+    let same = one_read allowed count read written others one other a b in
     let fronts : length one.front ≡ length other.front = ap (λ (spot : Spot). length spot.front) same.0 in
     omega (
       arith,
@@ -225,33 +226,33 @@ one_held count read written others one other a b =
     )
 
 -- Copiers that have read and written the same are at the same place.
-pub one_place : (count : ℕ) (read written : List ℕ) (one other : Copier) → HasCopied count read written one
-    → HasCopied count read written other → (one.pending ≡ other.pending) × (one.phase ≡ other.phase)
-one_place count read written one other a b =
-    let same = one_read count read written written one other a b in (
+pub one_place : (allowed : Spelling) (count : ℕ) (read written : List ℕ) (one other : Copier) → HasCopied allowed count read written one
+    → HasCopied allowed count read written other → (one.pending ≡ other.pending) × (one.phase ≡ other.phase)
+one_place allowed count read written one other a b =
+    let same = one_read allowed count read written written one other a b in (
       (same_front written written one.pending other.pending refl same.1).1,
       ap (λ (spot : Spot). spot.phase) same.0,
     )
 
-pub one_answer : (count : ℕ) (read written : List ℕ) (one other : Copier) (first second : Progress)
-    → HasCopied count read written one → HasCopied count read written other → Answers one first
+pub one_answer : (allowed : Spelling) (count : ℕ) (read written : List ℕ) (one other : Copier) (first second : Progress)
+    → HasCopied allowed count read written one → HasCopied allowed count read written other → Answers one first
     → Answers other second → first ≡ second
 unfolding Answers
-one_answer count read written one other first second a b says tells =
-    let same = one_place count read written one other a b in
+one_answer allowed count read written one other first second a b says tells =
+    let same = one_place allowed count read written one other a b in
     says ∙ (rw (same.0, same.1) refl ∙ sym tells)
 
-pub same_answer : (count : ℕ) (read written : List ℕ) (one other : Copier) (progress : Progress)
-    → HasCopied count read written one → HasCopied count read written other → Answers one progress
+pub same_answer : (allowed : Spelling) (count : ℕ) (read written : List ℕ) (one other : Copier) (progress : Progress)
+    → HasCopied allowed count read written one → HasCopied allowed count read written other → Answers one progress
     → Answers other progress
 unfolding Answers
-same_answer count read written one other progress a b says =
-    let same = one_place count read written one other a b in says ∙ rw (same.0, same.1) refl
+same_answer allowed count read written one other progress a b says =
+    let same = one_place allowed count read written one other a b in says ∙ rw (same.0, same.1) refl
 
-pub one_pending : (count : ℕ) (read written : List ℕ) (one other : Copier) → HasCopied count read written one
-    → HasCopied count read written other → pending one ≡ pending other
+pub one_pending : (allowed : Spelling) (count : ℕ) (read written : List ℕ) (one other : Copier) → HasCopied allowed count read written one
+    → HasCopied allowed count read written other → pending one ≡ pending other
 unfolding pending
-one_pending count read written one other a b = (one_place count read written one other a b).0
+one_pending allowed count read written one other a b = (one_place allowed count read written one other a b).0
 
 -- Unless no more bytes can be counted, the answer to a piece is the copier's.
 pub answers_unless : (copier : Copier) (progress : Progress) → AnswersPiece copier progress
@@ -261,17 +262,17 @@ answers_unless copier progress answers counted = answers
 
 -- ---- before the first byte
 
-start_clear : (count : ℕ) → (start count).front ≡ []
-start_clear zero = refl
-start_clear (suc count) = refl
+start_clear : (allowed : Spelling) (count : ℕ) → (start allowed count).front ≡ []
+start_clear allowed zero = refl
+start_clear allowed (suc count) = refl
 
 -- A copier that has read no byte has written none, and holds none.
-pub fresh_clear : (count : ℕ) (written : List ℕ) (copier : Copier) → HasCopied count [] written copier
+pub fresh_clear : (allowed : Spelling) (count : ℕ) (written : List ℕ) (copier : Copier) → HasCopied allowed count [] written copier
     → (written ≡ []) × (pending copier ≡ []) × (held copier ≡ 0)
 unfolding HasCopied pending held
-fresh_clear count written copier is =
-    let same = one_spot count [] (written ++ copier.pending) [] (putting [] (spot_of copier)) (start count) is fresh in
-    let front : copier.front ≡ [] = ap (λ (spot : Spot). spot.front) same.0 ∙ start_clear count in
+fresh_clear allowed count written copier is =
+    let same = one_spot allowed count [] (written ++ copier.pending) [] (putting [] (spot_of copier)) (start allowed count) is fresh in
+    let front : copier.front ≡ [] = ap (λ (spot : Spot). spot.front) same.0 ∙ start_clear allowed count in
     let none = no_parts written copier.pending same.1 in
     (none.0, none.1, omega (arith, ap (length {A = ℕ}) front, ap (length {A = ℕ}) none.1))
   where
@@ -292,9 +293,9 @@ held_some copier = omega arith
 
 -- ---- the output so far
 
-pub read_spelled : (count : ℕ) (read written behind : List ℕ) (copier : Copier) (marks : List Mark)
-    → HasCopied count read written copier → AreBytes behind → IsRun count (read ++ behind) marks
+pub read_spelled : (allowed : Spelling) (count : ℕ) (read written behind : List ℕ) (copier : Copier) (marks : List Mark)
+    → HasCopied allowed count read written copier → AreBytes behind → IsTakenRun allowed count (read ++ behind) marks
     → (rest : List ℕ) × (spelling marks ≡ (written ++ pending copier) ++ rest)
 unfolding HasCopied pending
-read_spelled count read written behind copier marks is are run =
-    spelled_on behind count read (written ++ copier.pending) (putting [] (spot_of copier)) marks is are run
+read_spelled allowed count read written behind copier marks is are run =
+    spelled_on behind allowed count read (written ++ copier.pending) (putting [] (spot_of copier)) marks is are run

@@ -1,9 +1,10 @@
 -- The state that plain numbers hold.
 use Rattle.std.proofs.Common.{◌≡◌, ◌∙◌, ℕ, List, Option, Some, None, refl, sym, ap, subst}
 use Rattle.std.specs.Prelude.{IfSome, IsSome, IsSomeAnd}
+use Rattle.ciborium_ll_grammar.specs.declared.spelling.Spelling.{Spelling}
 use Rattle.cbor_copier.specs.declared.copier.Copier.{Copier}
 use Rattle.cbor_copier.specs.declared.phase.Phase.{Phase}
-use Rattle.cbor_copier.specs.declared.phase.Within.{Within}
+use Rattle.cbor_parser.specs.declared.strings.Within.{Within}
 use Rattle.cbor_copier.specs.declared.progress.End.{End}
 use Rattle.cbor_copier.specs.declared.progress.Progress.{Progress}
 use Rattle.cbor_copier.specs.declared.snapshot.Snapshot.{Snapshot}
@@ -13,8 +14,9 @@ use Rattle.cbor_copier.specs.Snapshots.{Holds}
 use Rattle.cbor_copier.specs.Spots.{Spot}
 use Rattle.cbor_copier.specs.Telling.{end_of, progress_of}
 
-abbrev at_parts : Phase → List ℕ → Within → ℕ → ℕ → ℕ → List ℕ → Spot
-at_parts phase front within left place offset put = record {
+abbrev at_parts : Spelling → Phase → List ℕ → Within → ℕ → ℕ → ℕ → List ℕ → Spot
+at_parts allowed phase front within left place offset put = record {
+  allowed = allowed;
   phase = phase;
   front = front;
   within = within;
@@ -27,6 +29,7 @@ at_parts phase front within left place offset put = record {
 -- The same numbers hold one spot.
 pub same_held : (snapshot : Snapshot) (one other : Spot) → Holds snapshot one → Holds snapshot other → one ≡ other
 same_held snapshot one other a b =
+    let allowed : one.allowed ≡ other.allowed = let same = sym a.allowed ∙ b.allowed in cc in
     let phase : one.phase ≡ other.phase = let same = sym a.phase ∙ b.phase in cc in
     let front : one.front ≡ other.front = sym a.front ∙ b.front in
     let within : one.within ≡ other.within = let same = sym a.within ∙ b.within in cc in
@@ -34,8 +37,8 @@ same_held snapshot one other a b =
     let place : one.place ≡ other.place = sym a.place ∙ b.place in
     let offset : one.offset ≡ other.offset = sym a.offset ∙ b.offset in
     let put : one.put ≡ other.put = sym a.put ∙ b.put in
-    let same : at_parts one.phase one.front one.within one.left one.place one.offset one.put
-    ≡ at_parts other.phase other.front other.within other.left other.place other.offset other.put =
+    let same : at_parts one.allowed one.phase one.front one.within one.left one.place one.offset one.put
+    ≡ at_parts other.allowed other.phase other.front other.within other.left other.place other.offset other.put =
     cc in
     same
 
@@ -59,12 +62,12 @@ saved_end snapshot one other first second a b says tells =
     says ∙ (ap (λ (spot : Spot). end_of spot.put spot.phase) same ∙ sym tells)
 
 -- A copier with numbers that keep these bytes has read and written them.
-pub saved_read : (count : ℕ) (read written : List ℕ) (copier : Copier) (snapshot : Snapshot)
-    → Keeps count read written snapshot → Saves copier snapshot → HasCopied count read written copier
+pub saved_read : (allowed : Spelling) (count : ℕ) (read written : List ℕ) (copier : Copier) (snapshot : Snapshot)
+    → Keeps allowed count read written snapshot → Saves copier snapshot → HasCopied allowed count read written copier
 unfolding Keeps Saves HasCopied
-saved_read count read written copier snapshot keeps saves =
+saved_read allowed count read written copier snapshot keeps saves =
     let (spot, copied, holds) = keeps in
-    subst (IsCopiedTo count read written) (same_held snapshot spot (spot_of copier) holds saves) copied
+    subst (IsCopiedTo allowed count read written) (same_held snapshot spot (spot_of copier) holds saves) copied
 
 pub saved_some : (copier : Copier) (snapshot : Snapshot) → Saves copier snapshot → HoldsSome snapshot
 unfolding Saves HoldsSome
@@ -73,13 +76,13 @@ saved_some copier snapshot saves = (spot_of copier, saves)
 -- ---- the copier that plain numbers hold
 
 module _ (snapshot : Snapshot) where
-  pub kept_copier : (found : Option Copier) → ((spot : Spot) → Holds snapshot spot → IsAt found spot) → (count : ℕ)
-      (read written : List ℕ) → Keeps count read written snapshot
-      → IsSomeAnd found (λ copier. HasCopied count read written copier)
+  pub kept_copier : (found : Option Copier) → ((spot : Spot) → Holds snapshot spot → IsAt found spot)
+      → (allowed : Spelling) (count : ℕ) (read written : List ℕ) → Keeps allowed count read written snapshot
+      → IsSomeAnd found (λ copier. HasCopied allowed count read written copier)
   unfolding Keeps HasCopied
-  kept_copier None same count read written keeps = same keeps.0 keeps.2
-  kept_copier (Some copier) same count read written keeps =
-      subst (IsCopiedTo count read written) (sym (same keeps.0 keeps.2)) keeps.1
+  kept_copier None same allowed count read written keeps = same keeps.0 keeps.2
+  kept_copier (Some copier) same allowed count read written keeps =
+      subst (IsCopiedTo allowed count read written) (sym (same keeps.0 keeps.2)) keeps.1
 
   pub saved_copier : (found : Option Copier) → IfSome found (λ copier. Holds snapshot (spot_of copier))
       → IfSome found (λ copier. Saves copier snapshot)

@@ -1,5 +1,6 @@
 -- A copier, and the plain numbers of one, by the bytes that it has read and those that it has written.
 use Rattle.std.specs.Prelude.{◌≡◌, ℕ, ◌+◌, List, [], ◌++◌, length, Option, Some, None}
+use Rattle.ciborium_ll_grammar.specs.declared.spelling.Spelling.{Spelling}
 use Rattle.cbor_copier.specs.declared.copier.Copier.{Copier}
 use Rattle.cbor_copier.specs.declared.progress.End.{End}
 use Rattle.cbor_copier.specs.declared.progress.Progress.{Progress}
@@ -13,6 +14,7 @@ use Rattle.cbor_copier.specs.Telling.{end_of, progress_of}
 -- The spot that a copier has come to. It puts out the pending bytes: `01`, if `18 01` came and nothing is written.
 abbrev pub spot_of : Copier → Spot
 spot_of c = record {
+  allowed = c.spelling;
   phase = c.phase;
   front = c.front;
   within = c.within;
@@ -22,14 +24,14 @@ spot_of c = record {
   put = c.pending;
 }
 
--- `IsCopied count fed given c`: `fed` came to a copy of `count` elements. `given` is what they put out, without the
--- pending bytes. If `01` is pending after `18 01`, `given` is empty.
-abbrev pub IsCopied : ℕ → List ℕ → List ℕ → Copier → Type 0
-IsCopied count fed given c = IsFed count fed (putting [] (spot_of c)) (given ++ c.pending)
+-- `IsCopied allowed count fed given c`: `fed` came to a copy of `count` elements, and for `Shortest` in their shortest
+-- spelling. `given` is what they put out, without the pending bytes. If `01` is pending after `18 01`, `given` is empty.
+abbrev pub IsCopied : Spelling → ℕ → List ℕ → List ℕ → Copier → Type 0
+IsCopied allowed count fed given c = IsFed allowed count fed (putting [] (spot_of c)) (given ++ c.pending)
 
 -- `IsCopied` by the spot alone, which puts out the pending bytes. If it puts out `01` after `42 01`, `given` is `42`.
-abbrev pub IsCopiedTo : ℕ → List ℕ → List ℕ → Spot → Type 0
-IsCopiedTo count fed given spot = IsFed count fed (putting [] spot) (given ++ spot.put)
+abbrev pub IsCopiedTo : Spelling → ℕ → List ℕ → List ℕ → Spot → Type 0
+IsCopiedTo allowed count fed given spot = IsFed allowed count fed (putting [] spot) (given ++ spot.put)
 
 -- The restored copier has come to this spot. A copier restored after `18` is at the spot after `18`, and `None` at
 -- none.
@@ -39,12 +41,13 @@ IsAt None spot = ⊥
 
 -- ---- in the words of the grammar
 
--- `HasCopied count read written copier`: the copier of `count` elements has read exactly the bytes `read`, and has
--- written exactly the bytes `written` (RFC 7049, 2.1, 2.2.2 and 3.9). A copier that took `18` and then `01` has read
--- `18 01`. It has written `01`, or nothing if there was no room. A caller needs no more of this word: `new` and `feed`
--- say when it holds, and `Tells` says what follows for the bytes. How a copier keeps what it has read is its own.
-unfoldable pub HasCopied : ℕ → List ℕ → List ℕ → Copier → Type 0
-HasCopied count read written copier = IsCopied count read written copier
+-- `HasCopied allowed count read written copier`: the copier of `count` elements, and for `Shortest` of such in their
+-- shortest spelling, has read exactly the bytes `read`, and has written exactly the bytes `written` (RFC 7049, 2.1,
+-- 2.2.2 and 3.9). A copier for any spelling that took `18` and then `01` has read `18 01`. It has written `01`, or
+-- nothing if there was no room. A caller needs no more of this word: `new`, `strict` and `feed` say when it holds, and
+-- `Tells` says what follows for the bytes. How a copier keeps what it has read is its own.
+unfoldable pub HasCopied : Spelling → ℕ → List ℕ → List ℕ → Copier → Type 0
+HasCopied allowed count read written copier = IsCopied allowed count read written copier
 
 -- The bytes that the copier is still to write: `01` after `18 01` without room. The law `one_copy` says that the bytes
 -- decide them and what is written.
@@ -74,8 +77,9 @@ AnswersEnd copier end = end ≡ end_of copier.pending copier.phase
 
 -- The plain numbers are those of a copier that has read and written exactly these bytes, as in `HasCopied`. Numbers
 -- that a copier wrote after `82 01` keep `82 01`. How they keep it is their own.
-unfoldable pub Keeps : ℕ → List ℕ → List ℕ → Snapshot → Type 0
-Keeps count read written snapshot = (spot : Spot) × IsCopiedTo count read written spot × Holds snapshot spot
+unfoldable pub Keeps : Spelling → ℕ → List ℕ → List ℕ → Snapshot → Type 0
+Keeps allowed count read written snapshot =
+    (spot : Spot) × IsCopiedTo allowed count read written spot × Holds snapshot spot
 
 -- The plain numbers are those of this copier. The numbers that a copier wrote after `82 01` are those of a copier that
 -- has read `82 01`. The law `one_saved` says that all copiers with these numbers answer the same.

@@ -1,4 +1,4 @@
--- How many bytes of a title or of a character are held back at most, and how many strings are open.
+-- How many bytes of a title or of a character are held back at most.
 use Rattle.std.specs.Prelude.{ℕ, zero, suc, ◌-◌, ◌%◌, Bool, true, false, List, slice_index}
 use Rattle.ciborium_ll_grammar.specs.Title.{affix_len}
 use Rattle.ciborium_ll_text.specs.declared.state.State.{State}
@@ -6,8 +6,6 @@ use Rattle.ciborium_ll_text.specs.declared.state.State.TheVariants as s
 use Rattle.ciborium_ll_text.specs.States.{tail_due}
 use Rattle.cbor_copier.specs.declared.phase.Phase.{Phase}
 use Rattle.cbor_copier.specs.declared.phase.Phase.TheVariants as p
-use Rattle.cbor_copier.specs.declared.phase.Within.{Within}
-use Rattle.cbor_copier.specs.declared.phase.Within.TheVariants as w
 
 -- How many bytes of a character are held back at most, by how many more bytes end it. A character has at most four
 -- (Unicode, Table 3-7): if two more end it, as after `e2`, at most two came.
@@ -23,11 +21,6 @@ most_front p.Title front = affix_len (slice_index front 0 % 32)
 most_front (p.Text left state) front = most_cut state
 most_front (p.Faulted place) front = 8
 most_front phase front = 0
-
--- How many strings are open (RFC 7049, 2.2.2): two after `5f 5f`.
-abbrev pub open_count : Within → ℕ
-open_count w.Nothing = 0
-open_count (w.Open kind more) = suc more
 
 -- If a body is due, it has bytes left: so it is with `Bytes(2)` after `42` and with `Title`, and not with `Bytes(0)`.
 abbrev pub has_left : Phase → Bool

@@ -1,4 +1,3 @@
-pub mod Blocked
 pub mod Copying
 pub mod Fronts
 pub mod Plain

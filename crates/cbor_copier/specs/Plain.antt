@@ -1,14 +1,16 @@
 -- Elements that a copy keeps as they are.
 use Rattle.std.specs.Prelude.{◌≡◌, ◌≢◌, ℕ, suc, ◌+◌, ◌-◌, ◌/◌, ◌%◌, ◌<◌, ◌≤◌, ◌⊎◌, List, [], ◌++◌, length, slice_index}
 use Rattle.cbor_copier.specs.declared.phase.Phase.TheVariants as p
-use Rattle.cbor_copier.specs.declared.phase.Within.TheVariants as w
+use Rattle.cbor_parser.specs.declared.strings.Within.TheVariants as w
+use Rattle.ciborium_ll_grammar.specs.declared.spelling.Spelling.{Spelling}
 use Rattle.cbor_copier.specs.Spots.{Spot, elements_due}
 use Rattle.cbor_copier.specs.Steps.{IsFed}
 
 -- This many elements are left. None of the next title came, and nothing is pending. With 2, 5 and 6, two elements are
 -- left, the place is 5 and the offset 6.
-abbrev pub bare : ℕ → ℕ → ℕ → Spot
-bare left place offset = record {
+abbrev pub bare : Spelling → ℕ → ℕ → ℕ → Spot
+bare allowed left place offset = record {
+  allowed = allowed;
   phase = p.Title;
   front = [];
   within = w.Nothing;
@@ -18,11 +20,13 @@ bare left place offset = record {
   put = [];
 }
 
--- If an element is due, these bytes are an element, and go out as they are (RFC 7049, 2.1 and 3.9). `01`, `81` and
--- `42 01 02` do so, and `18 01` does not.
+-- If an element is due, these bytes are an element that any copier takes, and go out as they are (RFC 7049, 2.1 and
+-- 3.9). `01`, `81` and `42 01 02` do so, and `18 01` does not.
 abbrev pub IsKept : List ℕ → Type 0
-IsKept bytes = (count left place offset : ℕ) (fed out : List ℕ) → IsFed count fed (bare left place offset) out
-    → IsFed count (fed ++ bytes) (elements_due (left - 1) (bare left offset (offset + length bytes))) (out ++ bytes)
+IsKept bytes = (allowed : Spelling) (count left place offset : ℕ) (fed out : List ℕ)
+    → IsFed allowed count fed (bare allowed left place offset) out
+    → IsFed allowed count (fed ++ bytes) (elements_due (left - 1) (bare allowed left offset (offset + length bytes)))
+    (out ++ bytes)
 
 -- This many elements of this kind, joined. The last begins at this index, as at 1 in `01 02`.
 pub data AreKept : ℕ → ℕ → List ℕ → Type 0 where
@@ -38,11 +42,6 @@ IsLen first len =
     ((len ≡ 0) × (24 ≤ first % 32))
     ⊎ ((len ≡ 1) × (first % 32 < 24) × (first / 32 ≢ 2) × (first / 32 ≢ 3)
     ⊎ (len ≡ 1 + first % 32) × (first % 32 < 24) × ((first / 32 ≡ 2) ⊎ (first / 32 ≡ 3)))
-
--- The title at this index is no simple value from 24 to 31, which takes two bytes (RFC 7049, 2.3). At the index 1,
--- `01 f8 20` has such a title, and `01 f8 18` has none.
-abbrev pub IsMeantAt : ℕ → List ℕ → Type 0
-IsMeantAt at bytes = slice_index bytes at ≡ 0xf8 → 32 ≤ slice_index bytes (at + 1)
 
 -- No element of one byte begins so (RFC 7049, 2.1): the first byte begins a string, or an affix follows it. `42` and
 -- `18` are such bytes, and `17` is none.

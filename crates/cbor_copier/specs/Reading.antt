@@ -1,9 +1,10 @@
 -- The meaning of a copier's answers for the bytes that it has read and for those that it has written, in the words of
 -- the grammar (RFC 7049, 2.1, 2.2.2 and 3.9).
-use Rattle.std.specs.Prelude.{◌≡◌, ℕ, ◌+◌, ◌<◌, ◌≤◌, ◌^◌, ◌⊎◌, List, ◌++◌, length, take}
-use Rattle.ciborium_ll_grammar.specs.declared.spelling.Spelling.TheVariants.{Any}
+use Rattle.std.specs.Prelude.{◌≡◌, ℕ, ◌+◌, ◌<◌, ◌≤◌, ◌^◌, ◌⊎◌, List, [], ◌++◌, length, take}
+use Rattle.ciborium_ll_grammar.specs.declared.spelling.Spelling.{Spelling}
+use Rattle.ciborium_ll_grammar.specs.declared.spelling.Spelling.TheVariants.{Shortest}
 use Rattle.ciborium_ll_grammar.specs.Title.{AreBytes}
-use Rattle.ciborium_ll_grammar.specs.Elements.{Mark, spelling, IsRun}
+use Rattle.ciborium_ll_grammar.specs.Elements.{IsRun, IsStrictSpelling, Mark, spelling}
 use Rattle.ciborium_ll_grammar.specs.Faults.{Answer, Short, Syntax, BeginsWithElements, HasFault}
 use Rattle.cbor_copier.specs.declared.progress.Copied.{Copied}
 use Rattle.cbor_copier.specs.declared.progress.End.{End}
@@ -11,71 +12,83 @@ use Rattle.cbor_copier.specs.declared.progress.End.TheVariants as e
 use Rattle.cbor_copier.specs.declared.progress.Progress.{Progress}
 use Rattle.cbor_copier.specs.declared.progress.Progress.TheVariants as r
 
--- The bytes are that many elements, and the output is their shortest spelling, as `18 01` and `01` (RFC 7049, 2.1,
--- 2.2.2 and 3.9).
-pub record AreSpelled (count : ℕ) (bytes output : List ℕ) : Type 0 where
-  pub marks : List Mark
+-- The bytes are that many elements with these marks, and for `Shortest` in their shortest spelling (RFC 7049, 2.1, 2.2.2
+-- and 3.9). `18 01` is one element for `Any` alone.
+pub record IsTakenRun (allowed : Spelling) (count : ℕ) (bytes : List ℕ) (marks : List Mark) : Type 0 where
   pub run : IsRun count bytes marks
+  pub strictly : allowed ≡ Shortest → IsStrictSpelling bytes marks []
+
+-- The bytes are that many elements, for `Shortest` in their shortest spelling. The output is their shortest spelling: as
+-- `18 01` and `01` for `Any` (RFC 7049, 2.1, 2.2.2 and 3.9).
+pub record AreSpelled (allowed : Spelling) (count : ℕ) (bytes output : List ℕ) : Type 0 where
+  pub marks : List Mark
+  pub run : IsTakenRun allowed count bytes marks
   pub spelled : output ≡ spelling marks
 
 -- If no more bytes come, a copy of that many elements is at this fault with this output (RFC 7049, 2.1 and 2.2.2). One
 -- element with `61` is at `Short` with the output `61`.
-pub record ComesTo (count : ℕ) (bytes : List ℕ) (answer : Answer) (output : List ℕ) : Type 0 where
-  pub fault : HasFault Any count bytes
+pub record ComesTo (allowed : Spelling) (count : ℕ) (bytes : List ℕ) (answer : Answer) (output : List ℕ) : Type 0 where
+  pub fault : HasFault allowed count bytes
   pub answered : fault.answer ≡ answer
   pub written : fault.written ≡ output
 
--- Some more bytes make that many elements, as `20` after `18` does for one (RFC 7049, 2.1 and 2.2.2).
-pub record SomeGoOn (count : ℕ) (bytes : List ℕ) : Type 0 where
+-- Some more bytes make that many elements, as `20` after `18` does for one (RFC 7049, 2.1 and 2.2.2). For `Shortest`
+-- they make them in their shortest spelling, as no byte does after `19 00`.
+pub record SomeGoOn (allowed : Spelling) (count : ℕ) (bytes : List ℕ) : Type 0 where
   pub more : List ℕ
   pub more_bytes : AreBytes more
   pub marks : List Mark
-  pub run : IsRun count (bytes ++ more) marks
+  pub run : IsTakenRun allowed count (bytes ++ more) marks
 
 -- Whatever bytes follow, that many elements do not stand at the start, as with one and `1c` (RFC 7049, 2.1 and 2.2.2).
-abbrev pub NoneGoOn : ℕ → List ℕ → Type 0
-NoneGoOn count bytes = (more : List ℕ) → AreBytes more → BeginsWithElements Any count (bytes ++ more) → ⊥
+-- For `Shortest` none in their shortest spelling do, as with one and `19 00`.
+abbrev pub NoneGoOn : Spelling → ℕ → List ℕ → Type 0
+NoneGoOn allowed count bytes =
+    (more : List ℕ) → AreBytes more → BeginsWithElements allowed count (bytes ++ more) → ⊥
 
 -- With some more bytes, a copy is at the fault of this place with this output (RFC 7049, 2.1 and 2.2.2). One element
 -- with `1c` is at the place 0 without output.
-pub record FaultsAt (place count : ℕ) (bytes output : List ℕ) : Type 0 where
+pub record FaultsAt (allowed : Spelling) (place count : ℕ) (bytes output : List ℕ) : Type 0 where
   pub more : List ℕ
   pub more_bytes : AreBytes more
-  pub comes_to : ComesTo count (bytes ++ more) (Syntax place) output
+  pub comes_to : ComesTo allowed count (bytes ++ more) (Syntax place) output
 
 -- The meaning of an answer if nothing is pending. `More`: the bytes are a part of that many elements. `Ended`: they are
 -- that many elements. `Syntax`: no list of that many elements begins so. For one element, `18` gets `More`, and `1c`
 -- gets `Syntax(0)`.
-abbrev pub TellsWhole : ℕ → List ℕ → List ℕ → Progress → Type 0
-TellsWhole count bytes output r.More = ComesTo count bytes Short output × SomeGoOn count bytes
-TellsWhole count bytes output r.Room = ⊥
-TellsWhole count bytes output r.Ended = AreSpelled count bytes output
-TellsWhole count bytes output (r.Syntax place) = NoneGoOn count bytes × FaultsAt place count bytes output
-TellsWhole count bytes output r.TooLong =
-    ComesTo count bytes Short output × SomeGoOn count bytes × (2 ^ 64 ≤ length bytes + 1)
+abbrev pub TellsWhole : Spelling → ℕ → List ℕ → List ℕ → Progress → Type 0
+TellsWhole allowed count bytes output r.More =
+    ComesTo allowed count bytes Short output × SomeGoOn allowed count bytes
+TellsWhole allowed count bytes output r.Room = ⊥
+TellsWhole allowed count bytes output r.Ended = AreSpelled allowed count bytes output
+TellsWhole allowed count bytes output (r.Syntax place) =
+    NoneGoOn allowed count bytes × FaultsAt allowed place count bytes output
+TellsWhole allowed count bytes output r.TooLong =
+    ComesTo allowed count bytes Short output × SomeGoOn allowed count bytes × (2 ^ 64 ≤ length bytes + 1)
 
 -- With some pending bytes after the output, one of those answers holds: for one element and `18 01`, with `01` pending
 -- and no output, it is `Ended`.
-pub record LacksRoom (count : ℕ) (bytes output : List ℕ) : Type 0 where
+pub record LacksRoom (allowed : Spelling) (count : ℕ) (bytes output : List ℕ) : Type 0 where
   pub pending : List ℕ
   pub some : 0 < length pending
   pub progress : Progress
-  pub told : TellsWhole count bytes (output ++ pending) progress
+  pub told : TellsWhole allowed count bytes (output ++ pending) progress
 
 -- The meaning of the answer for all bytes so far and the output. For one element, `18 01` gets `Room` without output,
 -- and `Ended` with the output `01`.
-abbrev pub Tells : ℕ → List ℕ → List ℕ → Progress → Type 0
-Tells count bytes output r.Room = LacksRoom count bytes output
-Tells count bytes output progress = TellsWhole count bytes output progress
+abbrev pub Tells : Spelling → ℕ → List ℕ → List ℕ → Progress → Type 0
+Tells allowed count bytes output r.Room = LacksRoom allowed count bytes output
+Tells allowed count bytes output progress = TellsWhole allowed count bytes output progress
 
 -- The meaning of the last answer for all bytes and the output. `Ended`: they are that many elements, and all is
 -- written. `Short`: they are a part of that many elements. `Syntax`: no list of that many elements begins so. For one
 -- element, `42 01` with the output `42 01` gets `Short`.
-abbrev pub TellsEnd : ℕ → List ℕ → List ℕ → End → Type 0
-TellsEnd count bytes output e.Ended = AreSpelled count bytes output
-TellsEnd count bytes output e.Short = ComesTo count bytes Short output × SomeGoOn count bytes
-TellsEnd count bytes output e.Room = LacksRoom count bytes output
-TellsEnd count bytes output (e.Syntax place) = NoneGoOn count bytes × FaultsAt place count bytes output
+abbrev pub TellsEnd : Spelling → ℕ → List ℕ → List ℕ → End → Type 0
+TellsEnd allowed count bytes output e.Ended = AreSpelled allowed count bytes output
+TellsEnd allowed count bytes output e.Short = ComesTo allowed count bytes Short output × SomeGoOn allowed count bytes
+TellsEnd allowed count bytes output e.Room = LacksRoom allowed count bytes output
+TellsEnd allowed count bytes output (e.Syntax place) =
+    NoneGoOn allowed count bytes × FaultsAt allowed place count bytes output
 
 -- ---- the kinds of answers
 
@@ -115,18 +128,18 @@ progress_at (e.Syntax place) = r.Syntax place
 
 -- That many elements begin with these bytes, and go on after them (RFC 7049, 2.1 and 2.2.2). One element does after
 -- `18`, and not after `18 01`.
-pub record GoesOn (count : ℕ) (bytes : List ℕ) : Type 0 where
-  pub begins : SomeGoOn count bytes
-  pub unended : (marks : List Mark) → IsRun count bytes marks → ⊥
+pub record GoesOn (allowed : Spelling) (count : ℕ) (bytes : List ℕ) : Type 0 where
+  pub begins : SomeGoOn allowed count bytes
+  pub unended : (marks : List Mark) → IsTakenRun allowed count bytes marks → ⊥
 
 -- A copier that has read some bytes and written some reads a piece, writes `put`, and answers so (RFC 7049, 2.1, 2.2.2
 -- and 3.9). `goes`: it takes a byte only if the elements go on after all bytes before it. So an end or a fault comes
 -- with the first byte that shows it, and no byte is taken after that one. `all`: it takes all bytes if more are due.
--- `long`: it leaves a byte that it can't count. For one element, after `18` it takes one byte of `17 01`, writes `17`,
--- and answers `Ended`.
-pub record Copies (count : ℕ) (read written piece put : List ℕ) (copied : Copied) : Type 0 where
+-- `long`: it leaves a byte that it can't count. For one element in any spelling, after `18` it takes one byte of
+-- `17 01`, writes `17`, and answers `Ended`.
+pub record Copies (allowed : Spelling) (count : ℕ) (read written piece put : List ℕ) (copied : Copied) : Type 0 where
   pub taken : copied.taken ≤ length piece
-  pub goes : (len : ℕ) → len < copied.taken → GoesOn count (read ++ take len piece)
+  pub goes : (len : ℕ) → len < copied.taken → GoesOn allowed count (read ++ take len piece)
   pub all : IsMore copied.progress → copied.taken ≡ length piece
   pub long : copied.progress ≡ r.TooLong → copied.taken < length piece
-  pub tells : Tells count (read ++ take copied.taken piece) (written ++ put) copied.progress
+  pub tells : Tells allowed count (read ++ take copied.taken piece) (written ++ put) copied.progress

@@ -4,11 +4,11 @@ use Rattle.ciborium_ll_text.specs.declared.state.State.{State}
 use Rattle.ciborium_ll_text.specs.Numbers.{state_in}
 use Rattle.cbor_copier.specs.declared.phase.Phase.{Phase}
 use Rattle.cbor_copier.specs.declared.phase.Phase.TheVariants as p
-use Rattle.cbor_copier.specs.declared.phase.StringKind.TheVariants as k
-use Rattle.cbor_copier.specs.declared.phase.Within.{Within}
-use Rattle.cbor_copier.specs.declared.phase.Within.TheVariants as w
+use Rattle.cbor_parser.specs.declared.strings.Within.{Within}
+use Rattle.cbor_parser.specs.Saving.{spelling_in}
+use Rattle.cbor_parser.specs.Strings.{open_count, within_in}
 use Rattle.cbor_copier.specs.declared.snapshot.Snapshot.{Snapshot}
-use Rattle.cbor_copier.specs.Fronts.{has_left, most_front, open_count}
+use Rattle.cbor_copier.specs.Fronts.{has_left, most_front}
 use Rattle.cbor_copier.specs.Spots.{Spot}
 
 -- This many bytes of a text are due, if there is a state: two in the state `Between`, as after `62`.
@@ -25,14 +25,6 @@ phase_in kind number text =
     (if kind == 3 then text_in number (state_in text) else
     (if kind == 4 then Some p.Ended else
     (if kind == 5 then Some (p.Faulted number) else None))))
-
--- The strings that are open, by the number of their kind and how many there are within the first. Kind 1 with the
--- number 1 is two open byte strings, as after `5f 5f`.
-abbrev pub within_in : ℕ → ℕ → Option Within
-within_in kind more =
-    if kind == 0 then Some w.Nothing else
-    (if kind == 1 then Some (w.Open k.Bytes more) else
-    (if kind == 2 then Some (w.Open k.Text more) else None))
 
 -- The bytes of a title or of a character that isn't whole. If `front_len` is 1 and `front` begins with `19 01`, it is
 -- `19`.
@@ -52,6 +44,7 @@ pub record IsState (snapshot : Snapshot) (phase : Phase) (within : Within) : Typ
 -- The plain numbers are those of this spot. After `18` they are, among others, the phase 1, the byte `18` held back,
 -- and the offset 1.
 pub record Holds (snapshot : Snapshot) (spot : Spot) : Type 0 where
+  pub allowed : spelling_in snapshot.strict ≡ Some spot.allowed
   pub phase : phase_in snapshot.phase snapshot.number snapshot.text ≡ Some spot.phase
   pub front : front_in snapshot ≡ spot.front
   pub within : within_in snapshot.strings snapshot.more ≡ Some spot.within

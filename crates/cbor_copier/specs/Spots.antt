@@ -1,6 +1,7 @@
 -- The *spot* that the bytes so far have come to. `proofs/Reached.antt` says what a spot means: which elements came,
 -- what is due after them, and what was put out. The laws `exact_copies` and `spelled_so_far` say it of the bytes alone.
 use Rattle.std.specs.Prelude.{ℕ, zero, suc, ◌-◌, List, Option, Some, None}
+use Rattle.ciborium_ll_grammar.specs.declared.spelling.Spelling.{Spelling}
 use Rattle.ciborium_ll_grammar.specs.declared.hdr.Header.{Header}
 use Rattle.ciborium_ll_grammar.specs.declared.hdr.Header.TheVariants as h
 use Rattle.ciborium_ll_grammar.specs.Title.{shortest_title, title_len}
@@ -8,15 +9,18 @@ use Rattle.ciborium_ll_text.specs.declared.state.State.TheVariants as s
 use Rattle.ciborium_ll_text.specs.Text.{IsCharacters}
 use Rattle.cbor_copier.specs.declared.phase.Phase.{Phase}
 use Rattle.cbor_copier.specs.declared.phase.Phase.TheVariants as p
-use Rattle.cbor_copier.specs.declared.phase.StringKind.{StringKind}
-use Rattle.cbor_copier.specs.declared.phase.StringKind.TheVariants as k
-use Rattle.cbor_copier.specs.declared.phase.Within.{Within}
-use Rattle.cbor_copier.specs.declared.phase.Within.TheVariants as w
+use Rattle.cbor_parser.specs.declared.strings.StringKind.{StringKind}
+use Rattle.cbor_parser.specs.declared.strings.StringKind.TheVariants as k
+use Rattle.cbor_parser.specs.declared.strings.Within.{Within}
+use Rattle.cbor_parser.specs.declared.strings.Within.TheVariants as w
+use Rattle.cbor_parser.specs.Strings.{within_after}
 
--- The parts in turn: what is due, the bytes of a title or a character that are held back, the open strings, and how
--- many elements aren't whole. Then the place that a fault would name, how many bytes came, and what the last byte put
--- out. After `81 19` of two elements, `19` is held back, one element isn't whole, the place is 1 and the offset 2.
+-- The parts in turn: whether only the shortest spelling is taken, what is due, the bytes of a title or a character that
+-- are held back, the open strings, and how many elements aren't whole. Then the place that a fault would name, how many
+-- bytes came, and what the last byte put out. After `81 19` of two elements, `19` is held back, one element isn't whole,
+-- the place is 1 and the offset 2.
 pub record Spot : Type 0 where
+  pub allowed : Spelling
   pub phase : Phase
   pub front : List ℕ
   pub within : Within
@@ -90,27 +94,23 @@ header_entered header spot = element_done spot
 abbrev pub element_entered : Header → Spot → Spot
 element_entered header spot = header_entered header (putting (shortest_title header) spot)
 
--- The spot after a break within strings, with this many more open. Only the last break goes out (RFC 7049, 2.2.2), so
+-- The spot after a title that may stand within open strings, and after which these strings are open. A piece goes out
+-- with its shortest title. More opens do not go out, and of the breaks only the last one does (RFC 7049, 2.2.2). So
 -- `5f 5f ff ff` puts out `5f ff`.
-abbrev pub string_closed : StringKind → ℕ → Spot → Spot
-string_closed kind zero spot = element_done (putting (shortest_title h.Break) spot)
-string_closed kind (suc more) spot = string_open kind more spot
+abbrev pub piece_entered : Within → Header → Spot → Spot
+piece_entered after (h.Bytes (Some len)) spot = body_due k.Bytes len (putting (shortest_title (h.Bytes (Some len))) spot)
+piece_entered after (h.Text (Some len)) spot = body_due k.Text len (putting (shortest_title (h.Text (Some len))) spot)
+piece_entered w.Nothing header spot = element_done (putting (shortest_title h.Break) spot)
+piece_entered (w.Open kind more) header spot = string_open kind more spot
 
--- The spot after the title of a string within open strings of its kind. More opens do not go out (RFC 7049, 2.2.2), so
--- `5f 5f` puts out `5f`.
-abbrev pub piece_entered : StringKind → ℕ → Header → Option ℕ → Spot → Spot
-piece_entered kind more header (Some len) spot = body_due kind len (putting (shortest_title header) spot)
-piece_entered kind more header None spot = string_open kind (suc more) spot
-
--- The spot after a whole title within open strings (RFC 7049, 2.2.2). Within a byte string, `41` begins a piece, `ff`
--- ends the string, and `61` is a fault.
-abbrev pub within_entered : StringKind → ℕ → Header → Spot → Spot
-within_entered k.Bytes more (h.Bytes len) spot = piece_entered k.Bytes more (h.Bytes len) len spot
-within_entered k.Text more (h.Text len) spot = piece_entered k.Text more (h.Text len) len spot
-within_entered kind more h.Break spot = string_closed kind more spot
-within_entered kind more header spot = refused spot
+-- The same, by the strings that are open after the title, or a fault if the title may not stand there.
+abbrev pub within_entered : Option Within → Header → Spot → Spot
+within_entered None header spot = refused spot
+within_entered (Some after) header spot = piece_entered after header spot
 
 -- The spot after a whole title, of an element or within an open string. `01` is an element, and a fault after `5f`.
+-- Within a byte string, `41` begins a piece, and `ff` ends the string.
 abbrev pub entered : Within → Header → Spot → Spot
 entered w.Nothing header spot = element_entered header spot
-entered (w.Open kind more) header spot = within_entered kind more header spot
+entered (w.Open kind more) header spot =
+    within_entered (within_after spot.allowed (w.Open kind more) header) header spot

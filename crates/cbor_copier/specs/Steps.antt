@@ -1,19 +1,23 @@
 -- Steps from spot to spot: by one more byte, and by a list of bytes.
 use Rattle.std.specs.Prelude.{◌≡◌, ℕ, zero, suc, ◌+◌, ◌<◌, Bool, List, [], ◌∷◌, ◌++◌, true, false}
+use Rattle.ciborium_ll_grammar.specs.declared.spelling.Spelling.{Spelling}
 use Rattle.ciborium_ll_grammar.specs.declared.hdr.Header.{Header}
-use Rattle.ciborium_ll_grammar.specs.Title.{IsTitle, IsCutTitle, BeginsRefused}
+use Rattle.ciborium_ll_grammar.specs.Title.{IsTitle, IsCutTitle}
+use Rattle.ciborium_ll_grammar.specs.Items.{IsTakenTitle}
 use Rattle.ciborium_ll_text.specs.declared.state.State.{State}
 use Rattle.ciborium_ll_text.specs.declared.state.State.TheVariants as s
 use Rattle.ciborium_ll_text.specs.States.{after_byte, may_end}
 use Rattle.cbor_copier.specs.declared.phase.Phase.{Phase}
 use Rattle.cbor_copier.specs.declared.phase.Phase.TheVariants as p
-use Rattle.cbor_copier.specs.declared.phase.StringKind.TheVariants as k
-use Rattle.cbor_copier.specs.declared.phase.Within.TheVariants as w
+use Rattle.cbor_parser.specs.declared.strings.StringKind.TheVariants as k
+use Rattle.cbor_parser.specs.declared.strings.Within.TheVariants as w
+use Rattle.cbor_parser.specs.Titles.{NoneTaken, SomeTaken}
 use Rattle.cbor_copier.specs.Spots.{Spot, at_phase, putting, elements_due, body_due, entered, refused}
 
 -- No byte came, and this many elements are due. With 2, the place and the offset are 0. With 0, the copy has ended.
-abbrev pub start : ℕ → Spot
-start count = elements_due count (record {
+abbrev pub start : Spelling → ℕ → Spot
+start allowed count = elements_due count (record {
+  allowed = allowed;
   phase = p.Title;
   front = [];
   within = w.Nothing;
@@ -49,18 +53,21 @@ Faults spot = (place : ℕ) × (spot.phase ≡ p.Faulted place)
 -- The spot that a byte of a title leads to. The byte stands at the end of the front (RFC 7049, 2.1). If an element is
 -- due, `01` leads past it, and `1c` to a fault.
 pub data TitleStep (spot : Spot) : Spot → Type 0 where
-  -- The title isn't whole, and all titles with this beginning may stand here, as with `19` if an element is due.
-  cut : IsCutTitle spot.front
+  -- The title isn't whole. Some titles with this beginning are taken, and all of them may stand here. So it is with
+  -- `19` if an element is due.
+  cut : IsCutTitle spot.front → SomeTaken spot.allowed spot.front
       → ((more : List ℕ) (header : Header) → IsTitle (spot.front ++ more) header → Faults (titled header spot) → ⊥)
       → TitleStep spot spot
-  -- The title isn't whole, and no title with this beginning may stand here, as with `78` within a byte string.
-  early : IsCutTitle spot.front
+  -- The title isn't whole. Some titles with this beginning are taken, and none of them may stand here. So it is with
+  -- `78` within a byte string.
+  early : IsCutTitle spot.front → SomeTaken spot.allowed spot.front
       → ((more : List ℕ) (header : Header) → IsTitle (spot.front ++ more) header → Faults (titled header spot))
       → TitleStep spot (refused spot)
-  -- The title is whole, as `01`.
-  whole : (header : Header) → IsTitle spot.front header → TitleStep spot (titled header spot)
-  -- No title begins with these bytes, as with `1c`.
-  none : BeginsRefused spot.front → TitleStep spot (refused (record spot { front = [] }))
+  -- The title is whole, and is taken, as `01`.
+  whole : (header : Header) → IsTitle spot.front header → IsTakenTitle spot.allowed spot.front header
+      → TitleStep spot (titled header spot)
+  -- No title that is taken begins with these bytes, as with `1c`, and for `Shortest` with `19 00`.
+  none : NoneTaken spot.allowed spot.front → TitleStep spot (refused (record spot { front = [] }))
 
 -- The spot with one more byte of a character: after `62 c3`, the front is `c3`.
 abbrev pub with_char : ℕ → Spot → Spot
@@ -102,10 +109,11 @@ StepIn (p.Faulted place) spot byte new = ⊥
 abbrev pub Step : Spot → ℕ → Spot → Type 0
 Step spot byte new = StepIn spot.phase spot byte new
 
--- `IsFed count bytes spot output`: to a copy of `count` elements, these bytes have led from `start` to the spot, with a
--- `Step` for each. `output` is all that they put out: `01` for `18 01`.
-pub data IsFed (count : ℕ) : List ℕ → Spot → List ℕ → Type 0 where
-  fresh : IsFed count [] (start count) []
-  more : {bytes output : List ℕ} {spot : Spot} (byte : ℕ) (new : Spot) → byte < 256 → IsFed count bytes spot output
-      → Step spot byte new
-      → IsFed count (bytes ++ byte ∷ []) (putting [] new) (output ++ new.put)
+-- `IsFed allowed count bytes spot output`: to a copy of `count` elements, and for `Shortest` in their shortest spelling,
+-- these bytes have led from `start` to the spot, with a `Step` for each. `output` is all that they put out: `01` for
+-- `18 01`.
+pub data IsFed (allowed : Spelling) (count : ℕ) : List ℕ → Spot → List ℕ → Type 0 where
+  fresh : IsFed allowed count [] (start allowed count) []
+  more : {bytes output : List ℕ} {spot : Spot} (byte : ℕ) (new : Spot) → byte < 256
+      → IsFed allowed count bytes spot output → Step spot byte new
+      → IsFed allowed count (bytes ++ byte ∷ []) (putting [] new) (output ++ new.put)

@@ -1,33 +1,25 @@
 //! The copier: it takes one byte after another, and puts out the copy.
 
 ghost use Rattle.std.specs.Prelude.{◌≡◌, ◌≢◌, ◌+◌, ◌<◌, ◌≤◌, [], length, take, true};
-ghost use Rattle.cbor_copier.specs.Fronts.{has_left, most_front, open_count};
-ghost use Rattle.cbor_copier.specs.Blocked.{is_blocked};
+ghost use Rattle.cbor_copier.specs.Fronts.{has_left, most_front};
 ghost use Rattle.cbor_copier.specs.Spots.{IsPutOut};
+ghost use Rattle.cbor_parser.specs.Strings.{open_count, within_after};
 ghost use Rattle.ciborium_ll_text.specs.States.{may_end};
 
 use crate::pending::Pending;
-use crate::phase::{Phase, StringKind, Within};
+use crate::phase::Phase;
 use crate::plain::{Run, kept_run};
 use crate::progress::{Copied, End, Progress};
 use crate::snapshot::{Snapshot, is_state};
+use cbor_parser::spelling_of;
+use cbor_parser::strings::{StringKind, Within};
+use cbor_parser::title::taken_header;
+use cbor_parser::begun::begins_none;
 use ciborium_ll_grammar::few::Few;
 use ciborium_ll_grammar::hdr::Header;
-use ciborium_ll_grammar::hdr::table::{TitleKind, row_of};
-use ciborium_ll_grammar::titles::header_of;
+use ciborium_ll_grammar::hdr::table::row_of;
+use ciborium_ll_grammar::spelling::Spelling;
 use ciborium_ll_text::state::{State, text_front};
-
-/// Returns whether a title of this kind may not stand here, before all of its bytes came.
-fn is_blocked(within: Within, kind: TitleKind) -> bool
-    ensures { result ≡ is_blocked within kind }
-{
-    !matches!(
-        (within, kind),
-        (Within::Nothing, _)
-            | (Within::Open(StringKind::Bytes, _), TitleKind::Bytes)
-            | (Within::Open(StringKind::Text, _), TitleKind::Text)
-    )
-}
 
 /// Returns how many bytes at the start of a part of a body go out as they are: all of them, or the whole characters of
 /// a text.
@@ -48,6 +40,7 @@ fn whole_len(kind: StringKind, bytes: &[u8]) -> usize
 /// An element is a header that begins no string, or a whole string (RFC 7049, 2.1 and 2.2).
 #[derive(Drop)]
 pub struct Copier {
+    spelling: Spelling,
     phase: Phase,
     front: Few,
     within: Within,
@@ -67,8 +60,8 @@ impl Copier {
     ghost use Rattle.cbor_copier.specs.Copying.{IsAt, IsCopied, held, pending, spot_of};
     ghost use Rattle.cbor_copier.specs.Snapshots.{Holds};
     ghost use Rattle.cbor_copier.specs.Spots.{Spot, body_due, body_phase, element_done, element_entered, elements_due, entered};
-    ghost use Rattle.cbor_copier.specs.Spots.{string_closed, string_done, string_entered, string_open, within_entered};
-    ghost use Rattle.cbor_copier.specs.Spots.{piece_entered, refused};
+    ghost use Rattle.cbor_copier.specs.Spots.{piece_entered, refused, string_done, string_entered, string_open};
+    ghost use Rattle.cbor_copier.specs.Spots.{within_entered};
     ghost use Rattle.cbor_copier.specs.Fronts.{most_cut};
     ghost use Rattle.cbor_copier.specs.Plain.{AreKept};
     ghost use Rattle.cbor_copier.specs.Steps.{Step, TitleStep, byte_put, counted_by, text_left};
@@ -78,8 +71,11 @@ impl Copier {
     ghost use Rattle.cbor_copier.specs.Reading.{AreSpelled, TellsEnd};
     ghost use Rattle.cbor_copier.specs.Telling.{end_of};
     ghost use Rattle.cbor_copier.specs.declared.phase.Phase.TheVariants as p;
-    ghost use Rattle.cbor_copier.specs.declared.phase.StringKind.TheVariants as k;
-    ghost use Rattle.cbor_copier.specs.declared.phase.Within.TheVariants as w;
+    ghost use Rattle.cbor_parser.specs.declared.strings.StringKind.TheVariants as k;
+    ghost use Rattle.cbor_parser.specs.declared.strings.Within.TheVariants as w;
+    ghost use Rattle.ciborium_ll_grammar.specs.declared.spelling.Spelling.{Spelling};
+    ghost use Rattle.ciborium_ll_grammar.specs.declared.spelling.Spelling.TheVariants.{Any, Shortest};
+    ghost use Rattle.ciborium_ll_grammar.specs.Items.{IsTakenTitle};
     ghost use Rattle.ciborium_ll_grammar.specs.Title.{IsTitle};
     ghost use Rattle.cbor_copier.specs.declared.progress.End.TheVariants as e;
     ghost use Rattle.cbor_copier.specs.declared.progress.Progress.{Progress};
@@ -87,9 +83,29 @@ impl Copier {
 
     /// Makes a copier of `count` elements, which has read no byte and written none.
     pub fn new(count: usize) -> Copier
-        ensures { HasCopied count [] [] result }
+        ensures { HasCopied Any count [] [] result }
+    {
+        Copier::with_spelling(count, Spelling::Any)
+    }
+
+    /// Makes a copier of `count` elements that takes only their shortest spelling (RFC 7049, 3.9). What it writes is
+    /// what it has read.
+    ///
+    /// Each title is the shortest of its header, no simple value from 24 to 31 occurs, and strings within an open
+    /// string have a definite length. Any other spelling is a `Syntax` at the title's offset, with the first byte that
+    /// shows it.
+    pub fn strict(count: usize) -> Copier
+        ensures { HasCopied Shortest count [] [] result }
+    {
+        Copier::with_spelling(count, Spelling::Shortest)
+    }
+
+    /// Makes the copier of [`Copier::new`] for `Any`, and that of [`Copier::strict`] for `Shortest`.
+    pub fn with_spelling(count: usize, spelling: Spelling) -> Copier
+        ensures { HasCopied spelling count [] [] result }
     {
         let mut copier = Copier {
+            spelling,
             phase: Phase::Title,
             front: Few::new(),
             within: Within::Nothing,
@@ -195,20 +211,6 @@ impl Copier {
         }
     }
 
-    /// Ends an open string at its break, with `more` open strings around it.
-    fn string_closed(&mut self, kind: StringKind, more: usize)
-        requires clear { self.old.front ≡ [] }
-        requires open { more ≤ self.old.offset }
-        ensures { spot_of self.new ≡ string_closed kind more (spot_of self.old) }
-    {
-        if more == 0 {
-            self.pending.set(Few::title(Header::Break));
-            self.element_done();
-        } else {
-            self.string_open(kind, more - 1);
-        }
-    }
-
     /// Refuses what came: a fault at the place.
     fn refuse(&mut self)
         ensures { spot_of self.new ≡ refused (spot_of self.old) }
@@ -216,33 +218,40 @@ impl Copier {
         self.phase = Phase::Faulted(self.place);
     }
 
-    /// Enters the title of a string within an open string of its kind, with `more` open strings around that.
-    fn enter_piece(&mut self, kind: StringKind, more: usize, header: Header, len: Option<usize>)
+    /// Enters the title of this header, which may stand within the open strings. After it `after` are open.
+    fn enter_piece(&mut self, after: Within, header: Header)
         requires clear { self.old.front ≡ [] }
-        requires open { more + 2 ≤ self.old.offset }
-        ensures { spot_of self.new ≡ piece_entered kind more header len (spot_of self.old) }
+        requires open { open_count after ≤ self.old.offset }
+        ensures { spot_of self.new ≡ piece_entered after header (spot_of self.old) }
     {
-        match len {
-            Some(len) => {
+        match (header, after) {
+            (Header::Bytes(Some(len)), _) => {
                 self.pending.set(Few::title(header));
-                self.body_due(kind, len);
+                self.body_due(StringKind::Bytes, len);
             }
-            None => self.string_open(kind, more + 1),
+            (Header::Text(Some(len)), _) => {
+                self.pending.set(Few::title(header));
+                self.body_due(StringKind::Text, len);
+            }
+            (_, Within::Nothing) => {
+                self.pending.set(Few::title(Header::Break));
+                self.element_done();
+            }
+            (_, Within::Open(kind, more)) => self.string_open(kind, more),
         }
     }
 
-    /// Enters the title of this header within an open string, with `more` open strings around that.
-    fn enter_within(&mut self, kind: StringKind, more: usize, header: Header)
+    /// Enters the title of this header within open strings.
+    fn enter_within(&mut self, header: Header)
         requires clear { self.old.front ≡ [] }
-        requires open { more + 2 ≤ self.old.offset }
-        ensures { spot_of self.new ≡ within_entered kind more header (spot_of self.old) }
+        requires open { open_count self.old.within < self.old.offset }
+        ensures { spot_of self.new ≡ within_entered (within_after self.old.spelling self.old.within header) header
+            (spot_of self.old) }
     {
-        match (kind, header) {
-            (StringKind::Bytes, Header::Bytes(len)) | (StringKind::Text, Header::Text(len)) => {
-                self.enter_piece(kind, more, header, len);
-            }
-            (_, Header::Break) => self.string_closed(kind, more),
-            _ => self.refuse(),
+        let _most = self.offset; // For the prover: no more strings are open than bytes came.
+        match self.within.after(self.spelling, header) {
+            Some(after) => self.enter_piece(after, header),
+            None => self.refuse(),
         }
     }
 
@@ -255,7 +264,7 @@ impl Copier {
     {
         match self.within {
             Within::Nothing => self.enter_element(header),
-            Within::Open(kind, more) => self.enter_within(kind, more, header),
+            Within::Open(_, _) => self.enter_within(header),
         }
     }
 
@@ -284,12 +293,15 @@ impl Copier {
         let bytes = self.front.bytes();
         let row = row_of(bytes[0]);
         if bytes.len() <= row.affix.len() {
-            if is_blocked(self.within, row.kind) {
+            if begins_none(bytes, self.spelling) {
+                self.front.clear();
+                self.refuse();
+            } else if self.within.blocks(row.kind) {
                 self.refuse();
             }
             return;
         }
-        let header = header_of(bytes);
+        let header = taken_header(bytes, self.spelling);
         self.front.clear();
         match header {
             Some(header) => self.enter(header),
@@ -383,6 +395,7 @@ impl Copier {
         ensures fits { IfSome result (λ title. (0 < title.0) × (title.0 ≤ length bytes.now)
             × (self.now.offset + title.0 ≤ usize.MAX)) }
         ensures titled { IfSome result (λ title. IsTitle (take title.0 bytes.now) title.1) }
+        ensures taken { IfSome result (λ title. IsTakenTitle self.now.spelling (take title.0 bytes.now) title.1) }
     {
         let (Phase::Title, Within::Nothing, 0) = (self.phase, self.within, self.front.len()) else {
             return None;
@@ -391,7 +404,7 @@ impl Copier {
         if len > bytes.len() || len > usize::MAX - self.offset {
             return None;
         }
-        let header = header_of(&bytes[..len])?;
+        let header = taken_header(&bytes[..len], self.spelling)?;
         Some((len, header))
     }
 
@@ -491,8 +504,9 @@ impl Copier {
         ensures within { (at ≤ result.1) × (result.1 ≤ length out.old) }
         ensures rest { drop result.1 out.new ≡ drop result.1 out.old }
         ensures all { (self.new.pending ≡ []) ⊎ (result.1 ≡ length out.old) }
-        ensures copied { (count : ℕ) (fed given : List ℕ) → IsCopied count fed (given ++ take at out.old) self.old
-            → IsCopied count (fed ++ take result.0 bytes.now) (given ++ take result.1 out.new) self.new }
+        ensures copied { (allowed : Spelling) (count : ℕ) (fed given : List ℕ)
+            → IsCopied allowed count fed (given ++ take at out.old) self.old
+            → IsCopied allowed count (fed ++ take result.0 bytes.now) (given ++ take result.1 out.new) self.new }
         ensures grown { result.1 + length self.new.pending + length self.new.front
             ≤ at + length self.old.front + result.0 }
     {
@@ -535,10 +549,11 @@ impl Copier {
 
     /// Returns how the copy stands if no more bytes come.
     pub fn end(&self) -> End
-        ensures exactly { (count : ℕ) (read written : List ℕ) → HasCopied count read written self.now
-            → (result ≡ e.Ended ↔ AreSpelled count read written) }
-        ensures tells { (count : ℕ) (read written : List ℕ) → HasCopied count read written self.now
-            → TellsEnd count read written result }
+        ensures exactly { (allowed : Spelling) (count : ℕ) (read written : List ℕ)
+            → HasCopied allowed count read written self.now
+            → (result ≡ e.Ended ↔ AreSpelled allowed count read written) }
+        ensures tells { (allowed : Spelling) (count : ℕ) (read written : List ℕ)
+            → HasCopied allowed count read written self.now → TellsEnd allowed count read written result }
         ensures is { AnswersEnd self.now result }
         ensures room { result ≡ e.Room → pending self.now ≢ [] }
         ensures none { (result ≡ e.Room → ⊥) → pending self.now ≡ [] }
@@ -558,10 +573,14 @@ impl Copier {
         ensures taken { result.taken ≤ length bytes.now }
         ensures written { result.written ≤ length out.old }
         ensures kept { drop result.written out.new ≡ drop result.written out.old }
-        ensures copied { (count : ℕ) (fed given : List ℕ) → IsCopied count fed given self.old
-            → IsCopied count (fed ++ take result.taken bytes.now) (given ++ take result.written out.new) self.new }
-        ensures tells { (count : ℕ) (fed given : List ℕ) → IsCopied count fed given self.old
-            → Tells count (fed ++ take result.taken bytes.now) (given ++ take result.written out.new) result.progress }
+        ensures copied { (allowed : Spelling) (count : ℕ) (fed given : List ℕ)
+            → IsCopied allowed count fed given self.old
+            → IsCopied allowed count (fed ++ take result.taken bytes.now) (given ++ take result.written out.new)
+            self.new }
+        ensures tells { (allowed : Spelling) (count : ℕ) (fed given : List ℕ)
+            → IsCopied allowed count fed given self.old
+            → Tells allowed count (fed ++ take result.taken bytes.now) (given ++ take result.written out.new)
+            result.progress }
         ensures answers { IsAnswer result.progress self.new.pending self.new.phase }
         ensures all { IsMore result.progress → result.taken ≡ length bytes.now }
         ensures long { result.progress ≡ r.TooLong → result.taken < length bytes.now }
@@ -627,9 +646,11 @@ impl Copier {
     /// character before the damage.
     #[inline(always)]
     pub fn feed(&mut self, bytes: &[u8], out: &mut [u8]) -> Copied
-        ensures read { (count : ℕ) (read written : List ℕ) → HasCopied count read written self.old
-            → HasCopied count (read ++ take result.taken bytes.now) (written ++ take result.written out.new) self.new
-            × Copies count read written bytes.now (take result.written out.new) result }
+        ensures read { (allowed : Spelling) (count : ℕ) (read written : List ℕ)
+            → HasCopied allowed count read written self.old
+            → HasCopied allowed count (read ++ take result.taken bytes.now) (written ++ take result.written out.new)
+            self.new
+            × Copies allowed count read written bytes.now (take result.written out.new) result }
         ensures is { AnswersPiece self.new result.progress }
         ensures taken { result.taken ≤ length bytes.now }
         ensures written { result.written ≤ length out.old }
@@ -648,10 +669,9 @@ impl Copier {
 
     /// Returns the state as plain numbers, from which [`Copier::restore`] makes this copier again.
     pub fn save(&self) -> Snapshot
-        ensures keeps { (count : ℕ) (read written : List ℕ) → HasCopied count read written self.now
-            → Keeps count read written result }
+        ensures keeps { (allowed : Spelling) (count : ℕ) (read written : List ℕ)
+            → HasCopied allowed count read written self.now → Keeps allowed count read written result }
         ensures saves { Saves self.now result }
-        ensures spare { result.spare ≡ 0 }
     {
         let (phase, number, text) = self.phase.numbers();
         let (strings, more) = self.within.numbers();
@@ -670,7 +690,7 @@ impl Copier {
             phase,
             text,
             strings,
-            spare: 0,
+            strict: u8::from(self.spelling.is_shortest()),
         }
     }
 
@@ -679,6 +699,7 @@ impl Copier {
         ensures some { IfSome result (λ copier. Holds snapshot.now (spot_of copier)) }
         ensures same { (spot : Spot) → Holds snapshot.now spot → IsAt result spot }
     {
+        let spelling = spelling_of(snapshot.strict)?;
         let phase = Phase::of(snapshot.phase, snapshot.number as usize, snapshot.text)?;
         let within = Within::of(snapshot.strings, snapshot.more as usize)?;
         if !is_state(snapshot, phase, within) {
@@ -686,6 +707,7 @@ impl Copier {
         }
         let pending = Few::restore(&snapshot.pending, usize::from(snapshot.pending_len));
         Some(Copier {
+            spelling,
             phase,
             front: Few::restore(&snapshot.front, usize::from(snapshot.front_len)),
             within,
@@ -700,8 +722,9 @@ impl Copier {
     /// read and written the same bytes.
     #[inline(always)]
     pub fn restore(snapshot: &Snapshot) -> Option<Copier>
-        ensures kept { (count : ℕ) (read written : List ℕ) → Keeps count read written snapshot.now
-            → IsSomeAnd result (λ copier. HasCopied count read written copier) }
+        ensures kept { (allowed : Spelling) (count : ℕ) (read written : List ℕ)
+            → Keeps allowed count read written snapshot.now
+            → IsSomeAnd result (λ copier. HasCopied allowed count read written copier) }
         ensures some { IfSome result (λ copier. Saves copier snapshot.now) }
         ensures found { HoldsSome snapshot.now → IsSome result }
     {

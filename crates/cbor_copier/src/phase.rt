@@ -1,18 +1,9 @@
 //! What a copier waits for.
 
 ghost use Rattle.std.specs.Prelude.{◌≡◌, Some};
-ghost use Rattle.cbor_copier.specs.Snapshots.{phase_in, within_in};
+ghost use Rattle.cbor_copier.specs.Snapshots.{phase_in};
 
 use ciborium_ll_text::state::State;
-
-/// The two kinds of string.
-#[derive(Clone, Copy)]
-pub(crate) enum StringKind {
-    /// Byte strings.
-    Bytes,
-    /// Texts.
-    Text,
-}
 
 /// What a copier waits for.
 #[derive(Clone, Copy)]
@@ -27,15 +18,6 @@ pub(crate) enum Phase {
     Ended,
     /// Nothing: there is a fault at this offset.
     Faulted(usize),
-}
-
-/// The strings of indefinite length that are open.
-#[derive(Clone, Copy)]
-pub(crate) enum Within {
-    /// No string.
-    Nothing,
-    /// A string of this kind, and this many strings within it.
-    Open(StringKind, usize),
 }
 
 impl Phase {
@@ -64,32 +46,6 @@ impl Phase {
             3 => Some(Phase::Text(number, State::of_number(text)?)),
             4 => Some(Phase::Ended),
             5 => Some(Phase::Faulted(number)),
-            _ => None,
-        }
-    }
-}
-
-impl Within {
-    /// Returns the number of the kind, and how many strings are open within the first.
-    #[inline(always)]
-    pub(crate) fn numbers(self) -> (u8, usize)
-        ensures { within_in result.0 result.1 ≡ Some self }
-    {
-        match self {
-            Within::Nothing => (0, 0),
-            Within::Open(StringKind::Bytes, more) => (1, more),
-            Within::Open(StringKind::Text, more) => (2, more),
-        }
-    }
-
-    /// Returns the open strings with these numbers, if there are any.
-    pub(crate) fn of(kind: u8, more: usize) -> Option<Within>
-        ensures { result ≡ within_in kind more }
-    {
-        match kind {
-            0 => Some(Within::Nothing),
-            1 => Some(Within::Open(StringKind::Bytes, more)),
-            2 => Some(Within::Open(StringKind::Text, more)),
             _ => None,
         }
     }

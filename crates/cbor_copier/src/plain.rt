@@ -4,7 +4,7 @@ ghost use Rattle.std.specs.Prelude.{◌≡◌, ◌+◌, ◌-◌, ◌/◌, ◌<�
 ghost use Rattle.std.specs.Prelude.{false, true};
 ghost use Rattle.ciborium_ll_grammar.specs.Elements.{IsStrictRun, Mark};
 ghost use Rattle.ciborium_ll_text.specs.Text.{IsCharacters};
-ghost use Rattle.cbor_copier.specs.Plain.{AreKept, BeginsLonger, IsKept, IsLen, IsMeantAt};
+ghost use Rattle.cbor_copier.specs.Plain.{AreKept, BeginsLonger, IsKept, IsLen};
 
 use ciborium_ll_text::state::{State, text_front};
 
@@ -118,7 +118,6 @@ fn title_len(bytes: &[u8], at: usize) -> usize
     requires some { at < length bytes.now }
     ensures within { at + result ≤ length bytes.now }
     ensures kept { 0 < result → IsKept (take result (drop at bytes.now)) }
-    ensures meant { 0 < result → IsMeantAt at bytes.now }
 {
     let first = bytes[at];
     let left = bytes.len() - at;
@@ -148,7 +147,6 @@ fn kept_len(bytes: &[u8], at: usize) -> usize
     requires some { at < length bytes.now }
     ensures within { at + result ≤ length bytes.now }
     ensures kept { 0 < result → IsKept (take result (drop at bytes.now)) }
-    ensures meant { 0 < result → IsMeantAt at bytes.now }
     ensures none { result ≡ 0 → BeginsLonger (slice_index bytes.now at) }
 {
     let len = len_of(bytes[at]);

@@ -1,10 +1,11 @@
 //! A copier's state as plain numbers.
 
 ghost use Rattle.std.specs.Prelude.{◌≡◌, ◌<◌, ◌≤◌, length, true, false};
-ghost use Rattle.cbor_copier.specs.Fronts.{has_left, most_cut, most_front, open_count};
+ghost use Rattle.cbor_copier.specs.Fronts.{has_left, most_cut, most_front};
 ghost use Rattle.cbor_copier.specs.Snapshots.{IsState};
 
-use crate::phase::{Phase, Within};
+use crate::phase::Phase;
+use cbor_parser::strings::Within;
 use ciborium_ll_grammar::limits::LONGEST_TITLE;
 use ciborium_ll_grammar::titles::are_begun;
 use ciborium_ll_text::state::State;
@@ -45,8 +46,8 @@ pub struct Snapshot {
     pub text: u8,
     /// Which strings are open.
     pub strings: u8,
-    /// Nothing. [`Copier::save`](crate::Copier::save) writes 0, and no call reads it.
-    pub spare: u8,
+    /// Whether the copier takes the shortest spelling only.
+    pub strict: u8,
 }
 
 const _: () = prove!(size_of::<Snapshot>() == 64);
@@ -56,17 +57,6 @@ fn has_left(phase: Phase) -> bool
     ensures { result ≡ has_left phase }
 {
     !matches!(phase, Phase::Bytes(0) | Phase::Text(0, _))
-}
-
-/// Returns whether at least as many bytes came as strings are open.
-fn are_counted(within: Within, offset: usize) -> bool
-    ensures yes { result ≡ true → open_count within ≤ offset }
-    ensures no { result ≡ false → offset < open_count within }
-{
-    match within {
-        Within::Nothing => true,
-        Within::Open(_, more) => more < offset,
-    }
 }
 
 /// Returns how many bytes of a character are held back at most.
@@ -106,7 +96,7 @@ pub(crate) fn is_state(snapshot: &Snapshot, phase: Phase, within: Within) -> boo
     if usize::from(snapshot.pending_len) > LONGEST_TITLE {
         return false;
     }
-    if !are_counted(within, snapshot.offset as usize) {
+    if !within.is_counted(snapshot.offset as usize) {
         return false;
     }
     has_left(phase) && has_room(phase, &snapshot.front[..front_len])

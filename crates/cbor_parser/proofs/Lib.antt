@@ -1,5 +1,6 @@
 pub mod CharacterLaws
 pub mod ElementTokens
+pub mod LongerBegun
 pub mod OneParse
 pub mod ParseLaws
 pub mod PushLaws

@@ -1,4 +1,5 @@
 pub mod Events
+pub mod Longer
 pub mod Naming
 pub mod Parsing
 pub mod Phases

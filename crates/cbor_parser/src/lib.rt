@@ -4,6 +4,7 @@
 //! Each call returns. No call takes memory, or waits for a reader.
 #![tactic(auto)]
 
+pub mod begun;
 mod event;
 pub mod laws;
 mod parser;
@@ -14,4 +15,4 @@ pub mod title;
 
 pub use self::event::{Event, Pushed};
 pub use self::parser::Parser;
-pub use self::saved::Saved;
+pub use self::saved::{Saved, spelling_of};

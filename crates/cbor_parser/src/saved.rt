@@ -108,8 +108,8 @@ fn is_stuck(bytes: &[u8]) -> bool
     text_front(bytes, 0, State::Between).0.is_empty()
 }
 
-/// Returns which spellings the parser takes: 0 is any, and 1 is the shortest only.
-pub(crate) fn spelling_of(number: u8) -> Option<Spelling>
+/// Returns the spelling with this number: 0 is any, and 1 is the shortest alone. Other numbers are those of none.
+pub fn spelling_of(number: u8) -> Option<Spelling>
     ensures { result ≡ spelling_in number }
 {
     match number {

@@ -27,5 +27,5 @@ elements-preserved c =
           kept_more c.elements.last c.args.most c.elements.left c.elements.at c.kept_len-len.result c.args.bytes.now
           so_far.within c.elements-test.true so_far.most so_far.none so_far.kept item;
       strict = strict_kept c.args.most c.elements.left c.elements.at c.kept_len-len.result c.args.bytes.now
-          so_far.within c.elements-test.true so_far.most so_far.strict some item (c.kept_len-len.ensures.meant some);
+          so_far.within c.elements-test.true so_far.most so_far.strict item;
     }

@@ -10,17 +10,17 @@ use Rattle.cbor_copier.proofs.RunLaws.{body_given, first_on, title_given}
 use Rattle.cbor_copier.proofs.copier.Copier.advance.Goals as goal
 
 pub returns-in-Some-clause-copied : goal.returns-in-Some-clause-copied
-returns-in-Some-clause-copied c = λ count fed given is.
+returns-in-Some-clause-copied c = λ allowed count fed given is.
     let run = c.in-Some.kept in
     let spot = spot_of c.args.self.now in
     let xs = take run.len c.args.bytes.now in
     let fits : run.len ≤ length c.args.bytes.now = search rules in
-    run_given count (spot.left - run.left) run.last run.left xs spot (spot_of c.run_put-end.new.self) fed given
+    run_given allowed count (spot.left - run.left) run.last run.left xs spot (spot_of c.run_put-end.new.self) fed given
     (take c.args.at c.args.out.now) _ (search rules) (search rules) (search rules) (search rules) c.requires.given refl
     (search rules) c.run_put-end.ensures.put c.run_put-end.ensures.given is
 
 pub returns-then-len-gt0-clause-copied : goal.returns-then-len-gt0-clause-copied
-returns-then-len-gt0-clause-copied c = λ count fed given is.
+returns-then-len-gt0-clause-copied c = λ allowed count fed given is.
     let bytes = c.args.bytes.now in
     let most = c.min-most.result in
     let n = c.whole_len-len.result in
@@ -28,7 +28,7 @@ returns-then-len-gt0-clause-copied c = λ count fed given is.
     let within : n ≤ most = omega (arith, length-take-le most bytes fits, c.whole_len-len.ensures.within) in
     let long = length-take-le n bytes (omega (arith, within, fits)) in
     let whole = rw (take-take n most bytes within) at c.whole_len-len.ensures.whole in
-    body_given c.in-Some-body.kind count c.in-Some-body.left (take n bytes) (spot_of c.args.self.now)
+    body_given allowed c.in-Some-body.kind count c.in-Some-body.left (take n bytes) (spot_of c.args.self.now)
     (spot_of c.bytes_put.new.self) fed given (take c.args.at c.args.out.now) _
     (below_take n bytes (omega (arith, within, fits)) (λ i less. search rules)) (search rules) (search rules)
     c.requires.given (omega (arith, long, c.if-len-gt0.true))
@@ -36,14 +36,14 @@ returns-then-len-gt0-clause-copied c = λ count fed given is.
     c.bytes_put.ensures.put c.bytes_put.ensures.given is
 
 pub returns-in-Some-title-clause-copied : goal.returns-in-Some-title-clause-copied
-returns-in-Some-title-clause-copied c = λ count fed given is.
+returns-in-Some-title-clause-copied c = λ allowed count fed given is.
     let n = c.in-Some-title.len in
     let bytes = c.args.bytes.now in
     let fits : n ≤ length bytes = search rules in
-    title_given count n (take n bytes) c.in-Some-title.header (spot_of c.args.self.now)
+    title_given allowed count n (take n bytes) c.in-Some-title.header (spot_of c.args.self.now)
     (spot_of c.title_put.new.self) fed given (take c.args.at c.args.out.now) _ _
     (below_take n bytes fits (λ i less. search rules)) (search rules) (length-take-le n bytes fits) (search rules)
-    (search rules) (search rules) (search rules) c.requires.given c.title_put.ensures c.give.ensures.given is
+    (search rules) (search rules) (search rules) (search rules) c.requires.given c.title_put.ensures c.give.ensures.given is
 
 pub returns-in-Some-title-clause-grown : goal.returns-in-Some-title-clause-grown
 returns-in-Some-title-clause-grown c =
@@ -63,8 +63,8 @@ returns-in-Some-title-clause-grown c =
     omega (arith, grown)
 
 pub returns-clause-copied : goal.returns-clause-copied
-returns-clause-copied c = λ count fed given is.
-    first_on count fed given (take c.args.at c.args.out.now) _ _ c.args.bytes.now (spot_of c.args.self.now)
+returns-clause-copied c = λ allowed count fed given is.
+    first_on allowed count fed given (take c.args.at c.args.out.now) _ _ c.args.bytes.now (spot_of c.args.self.now)
     (spot_of c.step.new.self) c.requires.some (search rules) c.requires.given c.step.ensures c.give-2.ensures.given is
 
 pub returns-clause-grown : goal.returns-clause-grown

@@ -6,13 +6,13 @@ use Rattle.cbor_copier.proofs.copier.Copier.feed.Goals as goal
 
 pub returns-clause-read : goal.returns-clause-read
 unfolding HasCopied
-returns-clause-read c = λ count read written is.
+returns-clause-read c = λ allowed count read written is.
     let took = c.take.ensures in
-    let now = took.copied count read written is in (
+    let now = took.copied allowed count read written is in (
       now,
-      copies count read written c.args.bytes.now (take c.take.result.written c.take.new.out) _ c.take.result
+      copies allowed count read written c.args.bytes.now (take c.take.result.written c.take.new.out) _ c.take.result
           (putting [] (spot_of c.take.new.self)) took.taken took.all took.long now
-          (took.tells count read written is),
+          (took.tells allowed count read written is),
     )
 
 pub returns-clause-is : goal.returns-clause-is

@@ -21,9 +21,9 @@ pieces-preserved c =
       long = search rules;
       kept = went.rest ∙ drop_later c.pieces.written c.advance-len.result.1 c.pieces.out c.args.out.now went.within.0
           c.pieces.invariant.kept;
-      copied = λ count fed given is.
-          fed_behind count fed _ bytes c.pieces.at c.advance-len.result.0 (putting [] (spot_of c.advance-len.new.self))
-          (went.copied count (fed ++ take c.pieces.at bytes) given (c.pieces.invariant.copied count fed given is));
+      copied = λ allowed count fed given is.
+          fed_behind allowed count fed _ bytes c.pieces.at c.advance-len.result.0 (putting [] (spot_of c.advance-len.new.self))
+          (went.copied allowed count (fed ++ take c.pieces.at bytes) given (c.pieces.invariant.copied allowed count fed given is));
       full = search rules;
       grown = omega (arith, c.pieces.invariant.grown, went.grown, ap length none);
       stays = λ off given.
@@ -33,22 +33,22 @@ pieces-preserved c =
     }
 
 pub returns-in_default-clause-tells : goal.returns-in_default-clause-tells
-returns-in_default-clause-tells c = λ count fed given is.
-    copier_tells c.pieces.self c.progress.result c.progress.ensures count (fed ++ take c.pieces.at c.args.bytes.now)
-    (given ++ take c.pieces.written c.pieces.out) (c.pieces.invariant.copied count fed given is)
+returns-in_default-clause-tells c = λ allowed count fed given is.
+    copier_tells c.pieces.self c.progress.result c.progress.ensures allowed count (fed ++ take c.pieces.at c.args.bytes.now)
+    (given ++ take c.pieces.written c.pieces.out) (c.pieces.invariant.copied allowed count fed given is)
 
 pub returns-then-self-clause-tells : goal.returns-then-self-clause-tells
-returns-then-self-clause-tells c = λ count fed given is.
-    too_long c.pieces.self (sym c.in-More.is ∙ c.progress.ensures) (omega (arith, c.if-self.true)) count
+returns-then-self-clause-tells c = λ allowed count fed given is.
+    too_long c.pieces.self (sym c.in-More.is ∙ c.progress.ensures) (omega (arith, c.if-self.true)) allowed count
     (fed ++ take c.pieces.at c.args.bytes.now) (given ++ take c.pieces.written c.pieces.out)
-    (c.pieces.invariant.copied count fed given is)
+    (c.pieces.invariant.copied allowed count fed given is)
 
 pub returns-clause-tells : goal.returns-clause-tells
-returns-clause-tells c = λ count fed given is.
+returns-clause-tells c = λ allowed count fed given is.
     let all : c.pieces.at ≡ length c.args.bytes.now = search rules in
-    rw (← all) (copier_tells c.pieces.self c.progress-2.result c.progress-2.ensures count
+    rw (← all) (copier_tells c.pieces.self c.progress-2.result c.progress-2.ensures allowed count
     (fed ++ take c.pieces.at c.args.bytes.now) (given ++ take c.pieces.written c.pieces.out)
-    (c.pieces.invariant.copied count fed given is))
+    (c.pieces.invariant.copied allowed count fed given is))
 
 pub returns-in_default-clause-answers : goal.returns-in_default-clause-answers
 returns-in_default-clause-answers c =
@@ -67,7 +67,7 @@ pieces-init c =
       written = search rules;
       long = search rules;
       kept = gave.rest;
-      copied = λ count fed given is. rw (append-nil fed, append_assoc given, gave.given) is;
+      copied = λ allowed count fed given is. rw (append-nil fed, append_assoc given, gave.given) is;
       full = search rules;
       grown = omega (
         arith,

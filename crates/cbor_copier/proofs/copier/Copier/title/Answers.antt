@@ -3,8 +3,8 @@ use Rattle.ciborium_ll_text.proofs.Lists.{length_zero}
 use Rattle.cbor_copier.proofs.RunLaws.{front_whole}
 use Rattle.cbor_copier.proofs.copier.Copier.title.Goals as goal
 
-pub header_of-requires : goal.header_of-requires
-header_of-requires c =
+pub taken_header-requires : goal.taken_header-requires
+taken_header-requires c =
     let long = c.len-len.ensures _ c.row_of.ensures.affix in
     front_whole c.args.bytes.now (1 + c.len-len.result) c.if-len-bytes.false (ap (λ (z : ℕ). 1 + z) long)
 

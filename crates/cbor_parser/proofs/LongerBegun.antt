@@ -19,7 +19,7 @@ use Rattle.ciborium_ll_grammar.specs.Items.{IsTakenTitle}
 use Rattle.ciborium_ll_grammar.proofs.TitleLaws.{one_title, title_refused}
 use Rattle.ciborium_ll_grammar.proofs.LongerLaws.{minor_as, taken, refused, parts_header, parts_taken, parts_refused}
 use Rattle.ciborium_ll_grammar.proofs.AffixLaws.{title_or_refused, refused_affix, cut_begins, AreBytes-append}
-use Rattle.cbor_checker.specs.Longer.{BeginsLonger}
+use Rattle.cbor_parser.specs.Longer.{BeginsLonger}
 use Rattle.cbor_parser.specs.Titles.{NoneTaken, SomeTaken}
 
 ruleset tests = (arith, nat_tests)

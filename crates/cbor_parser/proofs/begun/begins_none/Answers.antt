@@ -1,7 +1,7 @@
 use Rattle.std.proofs.Common.{rules, sym, ◌∙◌}
 use Rattle.ciborium_ll_grammar.proofs.SpellingLaws.{any_allowed, only_shortest}
-use Rattle.cbor_checker.proofs.LongerBegun.{any_some, longer_none, strict_some}
-use Rattle.cbor_checker.proofs.title.begins_none.Goals as goal
+use Rattle.cbor_parser.proofs.LongerBegun.{any_some, longer_none, strict_some}
+use Rattle.cbor_parser.proofs.begun.begins_none.Goals as goal
 
 pub returns-then-is_shortest-clause-yes : goal.returns-then-is_shortest-clause-yes
 returns-then-is_shortest-clause-yes c = λ yes.

@@ -1,5 +1,5 @@
 use Rattle.std.proofs.Common.{rules}
-use Rattle.cbor_checker.proofs.title.begins_longer.Goals as goal
+use Rattle.cbor_parser.proofs.begun.begins_longer.Goals as goal
 
 pub returns-in-Two-clause-yes : goal.returns-in-Two-clause-yes
 returns-in-Two-clause-yes c = search rules
