@@ -497,11 +497,15 @@ inline result<copying> copying_of(std::uint32_t code, const cll_report &report) 
 
 /*
  * Copies `count` elements whose bytes come in pieces to their shortest spelling, however the bytes are cut, and however
- * long the outputs are. A copier takes no memory but its own, and may be copied.
+ * long the outputs are. A copier takes no memory but its own, and may be copied. If `shortest` is true, the copier takes
+ * only elements in their shortest spelling.
  */
 class copier {
 public:
-    explicit copier(std::uint64_t count) noexcept { (void)cll_copier_init(&kept_, count); }
+    explicit copier(std::uint64_t count, bool shortest = false) noexcept
+    {
+        (void)(shortest ? cll_copier_init_strict(&kept_, count) : cll_copier_init(&kept_, count));
+    }
 
     /*
      * Takes the next bytes, and writes as much as it can of all bytes so far. If `full` is true, give again what was

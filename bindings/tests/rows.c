@@ -83,14 +83,14 @@ static uint32_t fed(char *text, const uint8_t *data, size_t len, uint32_t depth,
 }
 
 /* Gives a copier the bytes one by one, with room for one each, and shows the bytes that it wrote. */
-static uint32_t copied(char *text, const uint8_t *data, size_t len, uint64_t count, cll_report *report)
+static uint32_t copied(char *text, const uint8_t *data, size_t len, uint64_t count, int strict, cll_report *report)
 {
     cll_copier copier;
     uint8_t out[ROOM];
     uint64_t taken = 0, written = 0, place;
     uint32_t answer;
     memset(&copier, 0, sizeof copier);
-    if (cll_copier_init(&copier, count) != CLL_OK)
+    if ((strict ? cll_copier_init_strict(&copier, count) : cll_copier_init(&copier, count)) != CLL_OK)
         return CLL_ARGUMENT;
     do {
         answer = cll_copier_feed(&copier, data + taken, taken < len, out + written, written < ROOM, report);
@@ -229,8 +229,8 @@ static int holds(const struct row *row)
     } else if (strcmp(row->call, "feed") == 0 || strcmp(row->call, "feed_strict") == 0) {
         answer = fed(text, data, row->len, (uint32_t)row->number, strcmp(row->call, "feed") != 0, &report);
         made = text;
-    } else if (strcmp(row->call, "copy") == 0) {
-        answer = copied(text, data, row->len, row->number, &report);
+    } else if (strcmp(row->call, "copy") == 0 || strcmp(row->call, "copy_strict") == 0) {
+        answer = copied(text, data, row->len, row->number, strcmp(row->call, "copy") != 0, &report);
         made = text;
     }
     int same = answer == row->answer && report.consumed == row->consumed && strcmp(made, row->made) == 0

@@ -117,7 +117,7 @@ bool feeds(const row &row, const std::vector<std::uint8_t> &data)
 /* Gives a copier the bytes one by one, with room for one each. */
 bool copies(const row &row, const std::vector<std::uint8_t> &data)
 {
-    cll::copier copier(row.number);
+    cll::copier copier(row.number, std::string(row.call) == "copy_strict");
     std::array<std::uint8_t, ROOM> out;
     std::size_t written = 0;
     auto got = copier.feed({}, {});
@@ -204,7 +204,7 @@ int holds(const row *row)
         return rewrites(*row, data, call == "canonical" ? cll::order::bytewise : cll::order::length_first);
     if (call == "feed" || call == "feed_strict")
         return feeds(*row, data);
-    if (call == "copy")
+    if (call == "copy" || call == "copy_strict")
         return copies(*row, data);
     if (call == "item" || call == "get" || call == "get_text" || call == "get_int")
         return views(*row, data);

@@ -62,7 +62,8 @@
  *
  * cll_checker_init, cll_item_copier_init and their strict forms do not write most of a state: 2,304 bytes of a
  * cll_checker and of a cll_item_copier stay as they were. So they may hold what stood in the memory before. Clear the
- * memory before the call, if you store or send the state. cll_copier_init writes all 72 bytes of a cll_copier.
+ * memory before the call, if you store or send the state. cll_copier_init and cll_copier_init_strict write all 72 bytes
+ * of a cll_copier.
  *
  * A state is plain numbers, in the byte order of the machine. So another process may go on with a copy of its bytes,
  * and so may another machine that runs the same library. Both need the same version of the library: a state does not
@@ -85,8 +86,8 @@
  * indefinite form, and take the same time for any item. The others read each byte of the items that they pass.
  *
  * STACK. These numbers were measured on x86-64, and are not proved. cll_pull, cll_push, cll_push_wide, cll_utf8,
- * cll_checker_init, cll_checker_init_strict, cll_checker_end, cll_copier_init, cll_item_header, cll_item_bytes,
- * cll_item_text and cll_item_items take less than 128 bytes. cll_checker_feed, cll_copier_feed, cll_copier_end and
+ * cll_checker_init, cll_checker_init_strict, cll_checker_end, cll_copier_init, cll_copier_init_strict, cll_item_header,
+ * cll_item_bytes, cll_item_text and cll_item_items take less than 128 bytes. cll_checker_feed, cll_copier_feed, cll_copier_end and
  * cll_item_copier_end take less than 1 KiB. cll_recode and cll_strict take less than 2 KiB, and less than 4.5 KiB if
  * the bytes end too early. cll_item_copier_init and cll_item_copier_init_strict take less than 3 KiB.
  * cll_item_copier_feed takes less than 4 KiB. cll_headers takes less than 256 bytes if it answers CLL_OK, and otherwise
@@ -629,6 +630,17 @@ CLL_NODISCARD cll_answer cll_checker_end(const cll_checker *checker, cll_report 
  * CLL_OK: the copier is set up, whatever `count` is.
  */
 cll_answer cll_copier_init(cll_copier *copier, uint64_t count);
+
+/*
+ * Sets a copier up as cll_copier_init does, for elements that are in their shortest spelling. A later feed then answers
+ * CLL_SYNTAX for any other title, and for a string of indefinite length inside another one. What it writes is what it
+ * took.
+ *
+ * Returns:
+ *
+ * CLL_OK: the copier is set up, whatever `count` is.
+ */
+cll_answer cll_copier_init_strict(cll_copier *copier, uint64_t count);
 
 /*
  * Gives a copier the next bytes of its elements, as many as there are, and writes their shortest spelling to the start

@@ -59,6 +59,7 @@ static void checker_feed(void) { answer = cll_checker_feed(&checker, data, len, 
 static void checker_end(void) { answer = cll_checker_end(&checker, &report); }
 
 static void copier_init(void) { answer = cll_copier_init(&copier, 1); }
+static void copier_init_strict(void) { answer = cll_copier_init_strict(&copier, 1); }
 static void copier_feed(void) { answer = cll_copier_feed(&copier, data, len, out, sizeof out, &report); }
 static void copier_end(void) { answer = cll_copier_end(&copier, &report); }
 
@@ -315,6 +316,7 @@ int main(void)
         {"cll_checker_init", checker_init}, {"cll_checker_feed", checker_feed}, {"cll_checker_end", checker_end},
         {"cll_checker_init_strict", checker_init_strict}, {"cll_checker_feed/strict", checker_feed},
         {"cll_copier_init", copier_init}, {"cll_copier_feed", copier_feed}, {"cll_copier_end", copier_end},
+        {"cll_copier_init_strict", copier_init_strict}, {"cll_copier_feed/strict", copier_feed},
         {"cll_item_copier_init", item_copier_init}, {"cll_item_copier_feed", item_copier_feed},
         {"cll_item_copier_end", item_copier_end}, {"cll_item_copier_init_strict", item_copier_init_strict},
         {"cll_item_copier_feed/strict", item_copier_feed}, {"cll_item_parse/0", item_parse},

@@ -329,6 +329,7 @@ def _library() -> ctypes.CDLL:
     calls.cll_checker_feed.argtypes = [checker, data, size, report]
     calls.cll_checker_end.argtypes = [checker, report]
     calls.cll_copier_init.argtypes = [copier, number]
+    calls.cll_copier_init_strict.argtypes = [copier, number]
     calls.cll_copier_feed.argtypes = [copier, data, size, data, size, report]
     calls.cll_copier_end.argtypes = [copier, report]
     calls.cll_item_copier_init.argtypes = [item, ctypes.c_uint32]
@@ -337,8 +338,8 @@ def _library() -> ctypes.CDLL:
     calls.cll_item_copier_end.argtypes = [item, report]
     calls.cll_version.argtypes = []
     for call in ("version pull headers push push_wide recode strict skip deterministic canonical utf8 checker_init "
-                 "checker_init_strict checker_feed checker_end copier_init copier_feed copier_end item_copier_init "
-                 "item_copier_init_strict item_copier_feed item_copier_end").split():
+                 "checker_init_strict checker_feed checker_end copier_init copier_init_strict copier_feed copier_end "
+                 "item_copier_init item_copier_init_strict item_copier_feed item_copier_end").split():
         getattr(calls, f"cll_{call}").restype = ctypes.c_uint32
     return calls
 
@@ -689,9 +690,9 @@ class Checker(_Fed):
 class Copier(_Fed):
     """Copies ``count`` elements whose bytes come in pieces to their shortest spelling.
 
-    It does not matter how the bytes are cut. ``consumed`` is how many bytes of all pieces the copier took. ``ended``
-    tells whether all elements have come. A copier of no elements has ended at once. A copy of a copier goes on by
-    itself.
+    It does not matter how the bytes are cut. If ``shortest`` is true, the copier takes the shortest spelling alone.
+    ``consumed`` is how many bytes of all pieces the copier took. ``ended`` tells whether all elements have come. A
+    copier of no elements has ended at once. A copy of a copier goes on by itself.
     """
 
     __slots__ = ()
@@ -699,9 +700,10 @@ class Copier(_Fed):
     _END = _CALLS.cll_copier_end
     _MAY_BE_EMPTY = True
 
-    def __init__(self, count: int = 1) -> None:
+    def __init__(self, count: int = 1, *, shortest: bool = False) -> None:
         self.consumed, self._kept = 0, _Copier()
-        _check(_CALLS.cll_copier_init(self._kept, _held(count, 64, "the count")), _Report())
+        init = _CALLS.cll_copier_init_strict if shortest else _CALLS.cll_copier_init
+        _check(init(self._kept, _held(count, 64, "the count")), _Report())
 
     def feed(self, data: _Bytes, offset: int = 0) -> Copied:
         """Takes the bytes from the offset on: all of them, or those up to the end of the elements.

@@ -107,9 +107,9 @@ def fed(depth, data, shortest):
     return "ok", taken, 0, f"length/{progress.length}"
 
 
-def copied(count, data):
+def copied(count, data, shortest):
     """Gives a copier the bytes one by one, and returns its copy as the table shows it."""
-    copier, out = ciborium_ll.Copier(count), b""
+    copier, out = ciborium_ll.Copier(count, shortest=shortest), b""
     try:
         got = copier.feed(b"")
         for at in range(len(data)):
@@ -144,8 +144,9 @@ class Rows(unittest.TestCase):
                     got = listed(b"" if given == "-" else bytes.fromhex(given))
                     self.assertEqual(got, (answer, int(consumed), int(place), want))
                     continue
-                if call == "copy":
-                    got = copied(int(number), b"" if given == "-" else bytes.fromhex(given))
+                if call in ("copy", "copy_strict"):
+                    data = b"" if given == "-" else bytes.fromhex(given)
+                    got = copied(int(number), data, call == "copy_strict")
                     self.assertEqual(got, (answer, int(consumed), int(place), want))
                     continue
                 try:

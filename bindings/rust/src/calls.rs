@@ -458,11 +458,16 @@ fn copy_by<T>(
     (answer, report)
 }
 
-/// Returns a copier of `count` elements, to which no byte came.
-pub(crate) fn new_copier(count: u64) -> cll_copier {
+/// Returns a copier of `count` elements, to which no byte came. A strict one takes the shortest spelling alone.
+pub(crate) fn new_copier(count: u64, strict: bool) -> cll_copier {
     let mut copier = cll_copier { words: [0; 9] };
+    let init = if strict {
+        sys::cll_copier_init_strict
+    } else {
+        sys::cll_copier_init
+    };
     // SAFETY: as this file says.
-    let _answer = unsafe { sys::cll_copier_init(&mut copier, count) };
+    let _answer = unsafe { init(&mut copier, count) };
     copier
 }
 

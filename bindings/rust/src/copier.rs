@@ -68,10 +68,14 @@ pub struct Copier {
 impl Copier {
     /// Returns a copier of `count` elements.
     pub fn new(count: u64) -> Copier {
-        Copier {
-            kept: calls::new_copier(count),
-            taken: 0,
-        }
+        let kept = calls::new_copier(count, false);
+        Copier { kept, taken: 0 }
+    }
+
+    /// Returns a copier as `new` does, of elements that are in their shortest spelling (RFC 7049, 3.9).
+    pub fn strict(count: u64) -> Copier {
+        let kept = calls::new_copier(count, true);
+        Copier { kept, taken: 0 }
     }
 
     /// Takes the next bytes, and writes to the start of the output as much as it can write of all bytes so far. After

@@ -212,6 +212,7 @@ extern "C" {
     ) -> u32;
     pub fn cll_checker_end(checker: *const cll_checker, report: *mut cll_report) -> u32;
     pub fn cll_copier_init(copier: *mut cll_copier, count: u64) -> u32;
+    pub fn cll_copier_init_strict(copier: *mut cll_copier, count: u64) -> u32;
     pub fn cll_copier_feed(
         copier: *mut cll_copier,
         data: *const u8,

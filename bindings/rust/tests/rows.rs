@@ -242,8 +242,8 @@ fn fed(depth: u32, data: &[u8], strict: bool) -> String {
 }
 
 /// Gives a copier the bytes one by one, with room for one each. Returns its answer as the table shows it.
-fn copied(count: u64, data: &[u8]) -> String {
-    let (mut copier, mut out, mut made) = (Copier::new(count), [0; 1], Vec::new());
+fn copied(mut copier: Copier, data: &[u8]) -> String {
+    let (mut out, mut made) = ([0; 1], Vec::new());
     let got = loop {
         let next = data
             .get(copier.taken()..)
@@ -316,12 +316,14 @@ fn rows_hold() {
             count += 1;
             continue;
         }
-        if call == "copy" {
-            assert_eq!(
-                copied(number, &bytes_of(given)),
-                words[3..].join(" "),
-                "{row}"
-            );
+        if call == "copy" || call == "copy_strict" {
+            let copier = if call == "copy" {
+                Copier::new(number)
+            } else {
+                Copier::strict(number)
+            };
+            let got = copied(copier, &bytes_of(given));
+            assert_eq!(got, words[3..].join(" "), "{row}");
             count += 1;
             continue;
         }

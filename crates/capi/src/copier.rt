@@ -1,6 +1,7 @@
 //! Copiers that a program in C keeps in memory of its own.
 
 ghost use Rattle.std.specs.Prelude.{◌≡◌, ◌≤◌, ℕ, List, IfSome, IsSomeAnd};
+ghost use Rattle.ciborium_ll_grammar.specs.declared.spelling.Spelling.{Spelling};
 ghost use Rattle.cbor_copier.specs.Copying.{HasCopied};
 ghost use Rattle.capi.specs.declared.answer.CllAnswer.TheVariants as a;
 ghost use Rattle.capi.specs.Answers.{Reports};
@@ -9,6 +10,7 @@ ghost use Rattle.capi.specs.Pieces.{end_answer, end_place, progress_answer, prog
 
 use crate::answer::{CllAnswer, CllReport};
 use cbor_copier::{Copier, End, Progress, Snapshot};
+use ciborium_ll_grammar::spelling::Spelling;
 
 /// The first eight bytes of a copier that was set up: "elements" in ASCII.
 const MARK: u64 = 0x656c_656d_656e_7473;
@@ -30,8 +32,9 @@ impl CllCopier {
     #[inline(always)]
     fn restored(&self) -> Option<Copier>
         ensures some { IfSome result (λ copier. IsCopier self.now) }
-        ensures kept { (count : ℕ) (read written : List ℕ) → IsCopyKept count read written self.now
-            → IsSomeAnd result (λ copier. HasCopied count read written copier) }
+        ensures kept { (allowed : Spelling) (count : ℕ) (read written : List ℕ)
+            → IsCopyKept allowed count read written self.now
+            → IsSomeAnd result (λ copier. HasCopied allowed count read written copier) }
     {
         if self.mark == MARK {
             Copier::restore(&self.state)
@@ -68,11 +71,11 @@ fn told_end(end: End) -> (CllAnswer, usize)
     }
 }
 
-/// Sets a copier of `count` elements up.
-pub(crate) fn init(copier: &mut CllCopier, count: usize)
-    ensures { IsCopierOf count copier.new }
+/// Sets a copier of `count` elements of this spelling up.
+pub(crate) fn init(copier: &mut CllCopier, count: usize, spelling: Spelling)
+    ensures { IsCopierOf spelling count copier.new }
 {
-    copier.state = Copier::new(count).save();
+    copier.state = Copier::with_spelling(count, spelling).save();
     copier.mark = MARK;
 }
 
@@ -83,8 +86,9 @@ pub(crate) fn feed(
     out: &mut [u8],
     report: &mut CllReport,
 ) -> CllAnswer
-    ensures fed { (count : ℕ) (read written : List ℕ) → IsCopyKept count read written copier.old
-        → FeedsCopied count read written bytes.now out.old result out.new report.new copier.new }
+    ensures fed { (allowed : Spelling) (count : ℕ) (read written : List ℕ)
+        → IsCopyKept allowed count read written copier.old
+        → FeedsCopied allowed count read written bytes.now out.old result out.new report.new copier.new }
     ensures within { StaysWithin bytes.now out.old out.new report.new }
     ensures argument { IsNoCopier copier.old
         → (result ≡ a.Argument) × (copier.new ≡ copier.old) × (out.new ≡ out.old) × Reports report.new 0 0 0 }
@@ -102,8 +106,9 @@ pub(crate) fn feed(
 
 /// Says what it means that no more bytes come to a copier.
 pub(crate) fn end(copier: &CllCopier, report: &mut CllReport) -> CllAnswer
-    ensures ended { (count : ℕ) (read written : List ℕ) → IsCopyKept count read written copier.now
-        → EndsCopied count read written result report.new }
+    ensures ended { (allowed : Spelling) (count : ℕ) (read written : List ℕ)
+        → IsCopyKept allowed count read written copier.now
+        → EndsCopied allowed count read written result report.new }
     ensures argument { IsNoCopier copier.now → (result ≡ a.Argument) × Reports report.new 0 0 0 }
 {
     let Some(restored) = copier.restored() else {

@@ -663,9 +663,17 @@ pub fn cll_checker_end(checker: &CllChecker, report: &mut CllReport) -> u32
 
 /// Sets a copier of `count` elements up (RFC 7049, 2.1 and 2.2).
 pub fn cll_copier_init(copier: &mut CllCopier, count: u64) -> u32
-    ensures { (result ≡ code a.Ok) × IsCopierOf count copier.new }
+    ensures { (result ≡ code a.Ok) × IsCopierOf Any count copier.new }
 {
-    copier::init(copier, count as usize);
+    copier::init(copier, count as usize, Spelling::Any);
+    CllAnswer::Ok.code()
+}
+
+/// Sets a copier up for `count` elements that are in their shortest spelling (RFC 7049, 3.9).
+pub fn cll_copier_init_strict(copier: &mut CllCopier, count: u64) -> u32
+    ensures { (result ≡ code a.Ok) × IsCopierOf Shortest count copier.new }
+{
+    copier::init(copier, count as usize, Spelling::Shortest);
     CllAnswer::Ok.code()
 }
 
@@ -677,9 +685,9 @@ pub fn cll_copier_feed(
     out: &mut [u8],
     report: &mut CllReport,
 ) -> u32
-    ensures fed { (count : ℕ) (read written : List ℕ) → IsCopyKept count read written copier.old
-        → (answer : CllAnswer) × (result ≡ code answer)
-        × FeedsCopied count read written bytes.now out.old answer out.new report.new copier.new }
+    ensures fed { (allowed : Spelling) (count : ℕ) (read written : List ℕ)
+        → IsCopyKept allowed count read written copier.old → (answer : CllAnswer) × (result ≡ code answer)
+        × FeedsCopied allowed count read written bytes.now out.old answer out.new report.new copier.new }
     ensures answers { IsCode result }
     ensures within { StaysWithin bytes.now out.old out.new report.new }
     ensures argument { IsNoCopier copier.old → (result ≡ code a.Argument) × (copier.new ≡ copier.old)
@@ -690,8 +698,9 @@ pub fn cll_copier_feed(
 
 /// Says what it means that no more bytes come to a copier, and leaves it as it is.
 pub fn cll_copier_end(copier: &CllCopier, report: &mut CllReport) -> u32
-    ensures ended { (count : ℕ) (read written : List ℕ) → IsCopyKept count read written copier.now
-        → (answer : CllAnswer) × (result ≡ code answer) × EndsCopied count read written answer report.new }
+    ensures ended { (allowed : Spelling) (count : ℕ) (read written : List ℕ)
+        → IsCopyKept allowed count read written copier.now
+        → (answer : CllAnswer) × (result ≡ code answer) × EndsCopied allowed count read written answer report.new }
     ensures answers { IsCode result }
     ensures argument { IsNoCopier copier.now → (result ≡ code a.Argument) × Reports report.new 0 0 0 }
 {

@@ -517,9 +517,17 @@ pub extern "C" fn cll_checker_end(checker: &CllChecker, report: &mut CllReport) 
 /// Sets a copier of `count` elements up (RFC 7049, 2.1 and 2.2), whatever the memory held.
 #[unsafe(no_mangle)]
 pub extern "C" fn cll_copier_init(copier: &mut CllCopier, count: u64) -> u32
-    ensures { (result ≡ code a.Ok) × IsCopierOf count copier.new }
+    ensures { (result ≡ code a.Ok) × IsCopierOf Any count copier.new }
 {
     capi::cll_copier_init(copier, count)
+}
+
+/// Sets a copier up as [`cll_copier_init`] does, for elements that are in their shortest spelling (RFC 7049, 3.9).
+#[unsafe(no_mangle)]
+pub extern "C" fn cll_copier_init_strict(copier: &mut CllCopier, count: u64) -> u32
+    ensures { (result ≡ code a.Ok) × IsCopierOf Shortest count copier.new }
+{
+    capi::cll_copier_init_strict(copier, count)
 }
 
 /// Gives a copier the next bytes of its elements, and writes their shortest spelling (RFC 7049, 3.9) to the start of
@@ -544,9 +552,9 @@ pub extern "C" fn cll_copier_feed(
     out: &mut [u8],
     report: &mut CllReport,
 ) -> u32
-    ensures fed { (count : ℕ) (read written : List ℕ) → IsCopyKept count read written copier.old
-        → (answer : CllAnswer) × (result ≡ code answer)
-        × FeedsCopied count read written bytes.now out.old answer out.new report.new copier.new }
+    ensures fed { (allowed : Spelling) (count : ℕ) (read written : List ℕ)
+        → IsCopyKept allowed count read written copier.old → (answer : CllAnswer) × (result ≡ code answer)
+        × FeedsCopied allowed count read written bytes.now out.old answer out.new report.new copier.new }
     ensures answers { IsCode result }
     ensures within { StaysWithin bytes.now out.old out.new report.new }
     ensures argument { IsNoCopier copier.old → (result ≡ code a.Argument) × (copier.new ≡ copier.old)
@@ -565,8 +573,9 @@ pub extern "C" fn cll_copier_feed(
 /// - `Syntax`, `Argument`: as of [`cll_copier_feed`].
 #[unsafe(no_mangle)]
 pub extern "C" fn cll_copier_end(copier: &CllCopier, report: &mut CllReport) -> u32
-    ensures ended { (count : ℕ) (read written : List ℕ) → IsCopyKept count read written copier.now
-        → (answer : CllAnswer) × (result ≡ code answer) × EndsCopied count read written answer report.new }
+    ensures ended { (allowed : Spelling) (count : ℕ) (read written : List ℕ)
+        → IsCopyKept allowed count read written copier.now
+        → (answer : CllAnswer) × (result ≡ code answer) × EndsCopied allowed count read written answer report.new }
     ensures answers { IsCode result }
     ensures argument { IsNoCopier copier.now → (result ≡ code a.Argument) × Reports report.new 0 0 0 }
 {

@@ -14,12 +14,14 @@ use Rattle.cbor_copier.proofs.TellLaws.{copier_ends, copier_exact}
 
 -- ---- what it says
 
-pub end_exact : (copier : Copier) (end : End) → AnswersEnd copier end → (allowed : Spelling) (count : ℕ) (read written : List ℕ)
+pub end_exact : (copier : Copier) (end : End) → AnswersEnd copier end
+    → (allowed : Spelling) (count : ℕ) (read written : List ℕ)
     → HasCopied allowed count read written copier → (end ≡ e.Ended) ↔ AreSpelled allowed count read written
 unfolding AnswersEnd HasCopied
 end_exact copier end is allowed count read written so = copier_exact copier end is allowed count read written so
 
-pub end_told : (copier : Copier) (end : End) → AnswersEnd copier end → (allowed : Spelling) (count : ℕ) (read written : List ℕ)
+pub end_told : (copier : Copier) (end : End) → AnswersEnd copier end
+    → (allowed : Spelling) (count : ℕ) (read written : List ℕ)
     → HasCopied allowed count read written copier → TellsEnd allowed count read written end
 unfolding AnswersEnd HasCopied
 end_told copier end is allowed count read written so = copier_ends copier end is allowed count read written so
@@ -63,7 +65,8 @@ one_end allowed count read written one other first second a b says tells =
     let same = one_place allowed count read written one other a b in
     says ∙ (rw (same.0, same.1) refl ∙ sym tells)
 
-pub same_end : (allowed : Spelling) (count : ℕ) (read written : List ℕ) (one other : Copier) (end : End) → HasCopied allowed count read written one
+pub same_end : (allowed : Spelling) (count : ℕ) (read written : List ℕ) (one other : Copier) (end : End)
+    → HasCopied allowed count read written one
     → HasCopied allowed count read written other → AnswersEnd one end → AnswersEnd other end
 unfolding AnswersEnd
 same_end allowed count read written one other end a b says =

@@ -1,6 +1,7 @@
 -- The spots after a whole title, a whole body and a whole element.
 use Rattle.std.proofs.Common.{◌≡◌, ℕ, zero, suc, ◌+◌, ◌-◌, ◌<◌, ◌≤◌, List, [], ◌∷◌, ◌++◌, length, Some, None}
-use Rattle.std.proofs.Common.{refl, sym, ap, arith, inl, inr, ◌∙◌, append_assoc, append-nil, le-leb, replicate, length-append}
+use Rattle.std.proofs.Common.{refl, sym, ap, arith, inl, inr, ◌∙◌, append_assoc, append-nil, le-leb, replicate}
+use Rattle.std.proofs.Common.{length-append}
 use Rattle.ciborium_ll_grammar.specs.declared.spelling.Spelling.{Spelling}
 use Rattle.ciborium_ll_grammar.specs.declared.spelling.Spelling.TheVariants.{Any, Shortest}
 use Rattle.ciborium_ll_grammar.specs.declared.hdr.Header.{Header}

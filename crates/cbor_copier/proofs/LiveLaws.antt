@@ -6,7 +6,8 @@ use Rattle.std.proofs.lemmas.List.{length-replicate}
 use Rattle.ciborium_ll_grammar.specs.declared.spelling.Spelling.{Spelling}
 use Rattle.ciborium_ll_grammar.specs.declared.hdr.Header.{Header}
 use Rattle.ciborium_ll_grammar.specs.declared.hdr.Header.TheVariants as h
-use Rattle.ciborium_ll_grammar.specs.Title.{AreBytes, IsTitle, Major, Unsigned, Size, Small, affix_of, alone, major_code}
+use Rattle.ciborium_ll_grammar.specs.Title.{AreBytes, IsTitle, Major, Unsigned, Size, Small, affix_of, alone}
+use Rattle.ciborium_ll_grammar.specs.Title.{major_code}
 use Rattle.ciborium_ll_grammar.specs.Title.{numbered}
 use Rattle.ciborium_ll_grammar.proofs.TitleLaws.{minor_below}
 use Rattle.ciborium_ll_grammar.specs.Strings.{IsWritable}

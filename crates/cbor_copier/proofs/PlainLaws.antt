@@ -133,7 +133,8 @@ kept_title title header below some is strict ends allowed count left place offse
     some refl is (strictly_taken allowed title header strict) refl
     refl refl refl (sym (ends (putting (shortest_title header) at))) put
     (rw (append-nil (out ++ []), append-nil out) led) in
-    rw (append-nil (out ++ title), due_clear allowed (left - 1) left offset (offset + n) (shortest_title header)) at gone
+    rw (append-nil (out ++ title), due_clear allowed (left - 1) left offset (offset + n) (shortest_title header)) at
+    gone
 
 -- The header of a string of this length.
 abbrev string_of : StringKind → ℕ → Header
@@ -191,7 +192,8 @@ string_on kind title (x ∷ xs) below whole allowed count left offset fed out pu
       ← due_phase allowed (left - 1) left offset
           ((offset + m) + n) phase,
     )
-    (rw (due_none allowed (left - 1) left offset ((offset + m) + n) phase, append-nil ((out ++ title) ++ (x ∷ xs))) at gone)
+    (rw (due_none allowed (left - 1) left offset ((offset + m) + n) phase, append-nil ((out ++ title) ++ (x ∷ xs))) at
+    gone)
 
 -- A string with a strict title is kept.
 kept_titled : (kind : StringKind) (title body : List ℕ) → Below title → Below body → 0 < length title
@@ -213,7 +215,8 @@ kept_titled kind title body below within some is strict whole allowed count left
     let gone = title_given allowed count n title header (bare allowed left place offset) new fed out [] title []
     below some refl is (strictly_taken allowed title header strict) refl refl refl refl there put
     (rw (append-nil (out ++ []), append-nil out) led) in
-    string_on kind title body within whole allowed count left offset fed out out1 (rw (append-nil (out ++ title)) at gone)
+    string_on kind title body within whole allowed count left offset fed out out1
+    (rw (append-nil (out ++ title)) at gone)
 
 kept_string : (kind : StringKind) (b : ℕ) (body : List ℕ) → Below (b ∷ body)
     → IsTitle (b ∷ []) (string_of kind (length body)) → IsPutOut kind body → IsKept (b ∷ body)
@@ -302,7 +305,8 @@ pub kept_run : (n last : ℕ) (xs : List ℕ) → AreKept n last xs → (allowed
 kept_run n last xs (one item) allowed count left place offset fed out some led =
     let here : offset ≡ offset + 0 = omega arith in
     rw (← here) (item allowed count left place offset fed out led)
-kept_run n last xs (more {count = before} {last = last'} {bytes} {item} run kept) allowed count left place offset fed out
+kept_run n last xs (more {count = before} {last = last'} {bytes} {item} run kept) allowed count left place offset fed
+    out
     some led =
     let m = left - suc before in
     let still : left - before ≡ suc m = omega (arith, some) in
@@ -311,13 +315,16 @@ kept_run n last xs (more {count = before} {last = last'} {bytes} {item} run kept
     let far : (offset + length bytes) + length item ≡ offset + length (bytes ++ item) =
     omega (arith, length-append bytes item) in
     let gone = kept_run before last' bytes run allowed count left place offset fed out less led in
-    let next = kept allowed count (suc m) (offset + last') (offset + length bytes) (fed ++ bytes) (out ++ bytes) (rw still at gone) in
+    let next = kept allowed count (suc m) (offset + last') (offset + length bytes) (fed ++ bytes) (out ++ bytes)
+    (rw still at gone) in
     rw (← append_assoc fed bytes item, ← append_assoc out bytes item)
-    (rw (back, due_left allowed m (suc m) left (offset + length bytes) ((offset + length bytes) + length item), far) at next)
+    (rw (back, due_left allowed m (suc m) left (offset + length bytes) ((offset + length bytes) + length item), far) at
+    next)
 
 -- A run of kept elements is given at once. `front` is the part of the room that was written before, and `end` is the
 -- part that is written then.
-pub run_given : (allowed : Spelling) (count n last left : ℕ) (xs : List ℕ) (spot new : Spot) (fed given front end : List ℕ) → AreKept n last xs
+pub run_given : (allowed : Spelling) (count n last left : ℕ) (xs : List ℕ) (spot new : Spot)
+    (fed given front end : List ℕ) → AreKept n last xs
     → spot.phase ≡ p.Title → spot.within ≡ w.Nothing → spot.front ≡ [] → spot.put ≡ [] → n ≡ spot.left - left
     → left ≤ spot.left
     → new ≡ elements_due left (record spot { place = spot.offset + last; offset = spot.offset + length xs })

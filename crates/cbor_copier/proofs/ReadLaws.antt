@@ -27,15 +27,18 @@ use Rattle.cbor_copier.proofs.TellLaws.{ended_exact, spelled_on, told}
 
 -- ---- the beginnings of the bytes
 
-goes_in : (allowed : Spelling) (phase : Phase) (count : ℕ) (bytes output : List ℕ) → TellsWhole allowed count bytes output (progress_in phase)
-    → is_due phase ≡ true → EndedIn phase ↔ ((marks : List Mark) × IsTakenRun allowed count bytes marks) → GoesOn allowed count bytes
+goes_in : (allowed : Spelling) (phase : Phase) (count : ℕ) (bytes output : List ℕ)
+    → TellsWhole allowed count bytes output (progress_in phase)
+    → is_due phase ≡ true → EndedIn phase ↔ ((marks : List Mark) × IsTakenRun allowed count bytes marks)
+    → GoesOn allowed count bytes
 goes_in allowed p.Ended count bytes output says due exact = absurd cc
 goes_in allowed (p.Faulted place) count bytes output says due exact = absurd cc
 goes_in allowed phase count bytes output says due exact =
     record { begins = says.1; unended = λ marks run. exact.1 (marks, run) }
 
 -- The elements go on if more bytes are due.
-goes_on : (allowed : Spelling) (count : ℕ) (fed output : List ℕ) (spot : Spot) → IsFed allowed count fed spot output → is_due spot.phase ≡ true
+goes_on : (allowed : Spelling) (count : ℕ) (fed output : List ℕ) (spot : Spot) → IsFed allowed count fed spot output
+    → is_due spot.phase ≡ true
     → GoesOn allowed count fed
 goes_on allowed count fed output spot is due =
     goes_in allowed spot.phase count fed output (told is) due (ended_exact allowed count fed output spot is)
@@ -46,7 +49,8 @@ step_due (p.Faulted place) spot new b step = absurd step
 step_due phase spot new b step = refl
 
 -- After fewer bytes the elements go on.
-fed_before : (allowed : Spelling) (count : ℕ) (fed output : List ℕ) (spot : Spot) → IsFed allowed count fed spot output → (len : ℕ)
+fed_before : (allowed : Spelling) (count : ℕ) (fed output : List ℕ) (spot : Spot) → IsFed allowed count fed spot output
+    → (len : ℕ)
     → len < length fed → GoesOn allowed count (take len fed)
 fed_before allowed count fed output spot fresh len less = absurd (omega (arith, less))
 fed_before allowed count fed output spot (more {bytes = a} {output = before} {spot = u} b new byte is step) len less =
@@ -198,7 +202,8 @@ kept_in allowed count read written one two put copied a none =
 
 -- ---- the same bytes, the same output and answer
 
-one_read : (allowed : Spelling) (count : ℕ) (read written others : List ℕ) (one other : Copier) → HasCopied allowed count read written one
+one_read : (allowed : Spelling) (count : ℕ) (read written others : List ℕ) (one other : Copier)
+    → HasCopied allowed count read written one
     → HasCopied allowed count read others other
     → (putting [] (spot_of one) ≡ putting [] (spot_of other)) × (written ++ one.pending ≡ others ++ other.pending)
 unfolding HasCopied
@@ -206,12 +211,15 @@ one_read allowed count read written others one other a b =
     one_spot allowed count read (written ++ one.pending) (others ++ other.pending) (putting [] (spot_of one))
     (putting [] (spot_of other)) a b
 
-pub one_output : (allowed : Spelling) (count : ℕ) (read written others : List ℕ) (one other : Copier) → HasCopied allowed count read written one
+pub one_output : (allowed : Spelling) (count : ℕ) (read written others : List ℕ) (one other : Copier)
+    → HasCopied allowed count read written one
     → HasCopied allowed count read others other → written ++ pending one ≡ others ++ pending other
 unfolding pending
-one_output allowed count read written others one other a b = (one_read allowed count read written others one other a b).1
+one_output allowed count read written others one other a b =
+    (one_read allowed count read written others one other a b).1
 
-pub one_held : (allowed : Spelling) (count : ℕ) (read written others : List ℕ) (one other : Copier) → HasCopied allowed count read written one
+pub one_held : (allowed : Spelling) (count : ℕ) (read written others : List ℕ) (one other : Copier)
+    → HasCopied allowed count read written one
     → HasCopied allowed count read others other → length written + held one ≡ length others + held other
 unfolding held
 one_held allowed count read written others one other a b =
@@ -226,7 +234,8 @@ one_held allowed count read written others one other a b =
     )
 
 -- Copiers that have read and written the same are at the same place.
-pub one_place : (allowed : Spelling) (count : ℕ) (read written : List ℕ) (one other : Copier) → HasCopied allowed count read written one
+pub one_place : (allowed : Spelling) (count : ℕ) (read written : List ℕ) (one other : Copier)
+    → HasCopied allowed count read written one
     → HasCopied allowed count read written other → (one.pending ≡ other.pending) × (one.phase ≡ other.phase)
 one_place allowed count read written one other a b =
     let same = one_read allowed count read written written one other a b in (
@@ -249,7 +258,8 @@ unfolding Answers
 same_answer allowed count read written one other progress a b says =
     let same = one_place allowed count read written one other a b in says ∙ rw (same.0, same.1) refl
 
-pub one_pending : (allowed : Spelling) (count : ℕ) (read written : List ℕ) (one other : Copier) → HasCopied allowed count read written one
+pub one_pending : (allowed : Spelling) (count : ℕ) (read written : List ℕ) (one other : Copier)
+    → HasCopied allowed count read written one
     → HasCopied allowed count read written other → pending one ≡ pending other
 unfolding pending
 one_pending allowed count read written one other a b = (one_place allowed count read written one other a b).0
@@ -267,11 +277,13 @@ start_clear allowed zero = refl
 start_clear allowed (suc count) = refl
 
 -- A copier that has read no byte has written none, and holds none.
-pub fresh_clear : (allowed : Spelling) (count : ℕ) (written : List ℕ) (copier : Copier) → HasCopied allowed count [] written copier
+pub fresh_clear : (allowed : Spelling) (count : ℕ) (written : List ℕ) (copier : Copier)
+    → HasCopied allowed count [] written copier
     → (written ≡ []) × (pending copier ≡ []) × (held copier ≡ 0)
 unfolding HasCopied pending held
 fresh_clear allowed count written copier is =
-    let same = one_spot allowed count [] (written ++ copier.pending) [] (putting [] (spot_of copier)) (start allowed count) is fresh in
+    let same = one_spot allowed count [] (written ++ copier.pending) [] (putting [] (spot_of copier))
+    (start allowed count) is fresh in
     let front : copier.front ≡ [] = ap (λ (spot : Spot). spot.front) same.0 ∙ start_clear allowed count in
     let none = no_parts written copier.pending same.1 in
     (none.0, none.1, omega (arith, ap (length {A = ℕ}) front, ap (length {A = ℕ}) none.1))

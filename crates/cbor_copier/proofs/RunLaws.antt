@@ -40,20 +40,24 @@ fed_fresh allowed zero spot pending e none = rw (e, none) fresh
 fed_fresh allowed (suc count) spot pending e none = rw (e, none) fresh
 
 -- All output is given, except for the pending bytes.
-given_on : {allowed : Spelling} {count : ℕ} {fed fed' : List ℕ} {spot new : Spot} (given front pending front' pending' added : List ℕ)
+given_on : {allowed : Spelling} {count : ℕ} {fed fed' : List ℕ} {spot new : Spot}
+    (given front pending front' pending' added : List ℕ)
     → pending ≡ [] → front' ++ pending' ≡ front ++ added
     → ((out : List ℕ) → IsFed allowed count fed spot out → IsFed allowed count fed' new (out ++ added))
-    → IsFed allowed count fed spot ((given ++ front) ++ pending) → IsFed allowed count fed' new ((given ++ front') ++ pending')
+    → IsFed allowed count fed spot ((given ++ front) ++ pending)
+    → IsFed allowed count fed' new ((given ++ front') ++ pending')
 given_on given front pending front' pending' added none e on is =
     rw (append_assoc given front' pending', e, ← append_assoc given front added)
     (on (given ++ front) (rw (none, append-nil) at is))
 
 -- The first byte of a list is fed.
-pub first_on : (allowed : Spelling) (count : ℕ) (fed given front front' pending' bytes : List ℕ) (spot new : Spot) → 0 < length bytes
+pub first_on : (allowed : Spelling) (count : ℕ) (fed given front front' pending' bytes : List ℕ) (spot new : Spot)
+    → 0 < length bytes
     → get_or bytes 0 0 < 256 → spot.put ≡ [] → Step spot (get_or bytes 0 0) new → front' ++ pending' ≡ front ++ new.put
     → IsFed allowed count fed (putting [] spot) ((given ++ front) ++ spot.put)
     → IsFed allowed count (fed ++ take 1 bytes) (putting [] new) ((given ++ front') ++ pending')
-first_on allowed count fed given front front' pending' [] spot new some byte none step e is = absurd (omega (arith, some))
+first_on allowed count fed given front front' pending' [] spot new some byte none step e is = absurd
+    (omega (arith, some))
 first_on allowed count fed given front front' pending' (x ∷ bytes) spot new some byte none step e is =
     let same : putting [] spot ≡ spot = ap (λ (z : List ℕ). record spot { put = z }) (sym none) in
     given_on given front spot.put front' pending' new.put none e (λ out is. more x new byte (rw same at is) step) is
@@ -129,7 +133,8 @@ Ends k.Bytes state front xs = front ≡ []
 Ends k.Text state front xs = after state xs ≡ s.Between
 
 -- A part of a body is fed, and after the rest `xs` nothing is held back.
-record Went (allowed : Spelling) (kind : StringKind) (count left : ℕ) (state : State) (spot : Spot) (offset : ℕ) (fed xs all : List ℕ)
+record Went (allowed : Spelling) (kind : StringKind) (count left : ℕ) (state : State) (spot : Spot) (offset : ℕ)
+    (fed xs all : List ℕ)
     : Type 0 where
   front : List ℕ
   out : List ℕ
@@ -137,7 +142,8 @@ record Went (allowed : Spelling) (kind : StringKind) (count left : ℕ) (state :
   ends : Ends kind state front xs
   is : out ++ front ≡ all
 
-char_goes : (allowed : Spelling) (next state : State) (count left total x offset : ℕ) (front fed out xs : List ℕ) (spot : Spot)
+char_goes : (allowed : Spelling) (next state : State) (count left total x offset : ℕ) (front fed out xs : List ℕ)
+    (spot : Spot)
     → after next xs ≡ s.Between
     → (let new = text_left true (suc left) next (with_char x (mid k.Text total state front offset spot)) in
     IsFed allowed count fed (putting [] new) (out ++ new.put))
@@ -147,10 +153,12 @@ char_goes allowed s.Between state count left total x offset front fed out xs spo
 char_goes allowed next state count left total x offset front fed out xs spot ends led =
     record { front = front ++ x ∷ []; out = out ++ []; led = led; ends = ends; is = rw (append-nil out) }
 
-byte_goes : (allowed : Spelling) (kind : StringKind) (state : State) (count left l x offset : ℕ) (front fed out xs : List ℕ) (spot : Spot)
+byte_goes : (allowed : Spelling) (kind : StringKind) (state : State) (count left l x offset : ℕ)
+    (front fed out xs : List ℕ) (spot : Spot)
     → x < 256 → suc l ≡ length xs + left → Ends kind state front (x ∷ xs)
     → IsFed allowed count fed (mid kind (suc (suc l)) state front offset spot) out
-    → Went allowed kind count (suc l) (after_byte state x) spot (offset + 1) (fed ++ x ∷ []) xs (out ++ (front ++ x ∷ []))
+    → Went allowed kind count (suc l) (after_byte state x) spot (offset + 1) (fed ++ x ∷ []) xs
+    (out ++ (front ++ x ∷ []))
 byte_goes allowed k.Bytes state count left l x offset front fed out xs spot byte all ends is = record {
   front = [];
   out = out ++ x ∷ [];
@@ -167,16 +175,19 @@ byte_goes allowed k.Text state count left l x offset front fed out xs spot byte 
     (more x (text_left true (suc l) (after_byte state x) old) byte is (rw may))
 
 -- The last byte of a part of a body leads to the spot after the part.
-last_goes : {allowed : Spelling} {count : ℕ} {fed : List ℕ} (out : List ℕ) (kind : StringKind) (left offset : ℕ) (phase : Phase)
+last_goes : {allowed : Spelling} {count : ℕ} {fed : List ℕ} (out : List ℕ) (kind : StringKind) (left offset : ℕ)
+    (phase : Phase)
     (char : List ℕ) (spot : Spot)
     → (let new = body_due kind left (at_phase phase (putting char (record spot { front = []; offset = offset }))) in
     IsFed allowed count fed (putting [] new) (out ++ new.put))
-    → IsFed allowed count fed (putting [] (body_due kind left (record spot { front = []; offset = offset }))) (out ++ char)
+    → IsFed allowed count fed (putting [] (body_due kind left (record spot { front = []; offset = offset })))
+    (out ++ char)
 last_goes out kind left offset phase char spot led =
     let old = record spot { front = []; offset = offset } in
     rw (body_alike kind left old phase char, (body_kept kind left (at_phase phase (putting char old))).2) at led
 
-come : (allowed : Spelling) (xs : List ℕ) (kind : StringKind) (state : State) (count left n x offset end : ℕ) (front fed out : List ℕ)
+come : (allowed : Spelling) (xs : List ℕ) (kind : StringKind) (state : State) (count left n x offset end : ℕ)
+    (front fed out : List ℕ)
     (spot : Spot) → Below (x ∷ xs) → n ≡ length xs + left → end ≡ offset + length (x ∷ xs)
     → Ends kind state front (x ∷ xs) → IsFed allowed count fed (mid kind (suc n) state front offset spot) out
     → IsFed allowed count (fed ++ x ∷ xs) (putting [] (body_due kind left (record spot { front = []; offset = end })))
@@ -194,7 +205,8 @@ come allowed [] k.Text state count left n x offset end front fed out spot below 
 come allowed (y ∷ ys) kind state count left n x offset end front fed out spot below all on ends is =
     let l = length ys + left in
     let here : n ≡ suc l = omega (arith, all) in
-    let o = byte_goes allowed kind state count left l x offset front fed out (y ∷ ys) spot (below 0 (omega arith)) (omega arith)
+    let o = byte_goes allowed kind state count left l x offset front fed out (y ∷ ys) spot (below 0 (omega arith))
+    (omega arith)
     ends (rw here at is) in
     let whole : o.out ++ (o.front ++ y ∷ ys) ≡ out ++ (front ++ x ∷ y ∷ ys) =
     sym (append_assoc o.out o.front (y ∷ ys)) ∙ (ap (λ (z : List ℕ). z ++ y ∷ ys) o.is ∙ simp append_assoc) in
@@ -212,7 +224,8 @@ ends_by k.Text xs put = text_ends xs put
 
 -- Bytes of a body are given at once. `front` is the part of the room that was written before, and `end` is the part
 -- that is written then.
-pub body_given : (allowed : Spelling) (kind : StringKind) (count left : ℕ) (xs : List ℕ) (spot new : Spot) (fed given front end : List ℕ)
+pub body_given : (allowed : Spelling) (kind : StringKind) (count left : ℕ) (xs : List ℕ) (spot new : Spot)
+    (fed given front end : List ℕ)
     → Below xs → spot.phase ≡ body_phase kind left → spot.front ≡ [] → spot.put ≡ [] → 0 < length xs → length xs ≤ left
     → IsPutOut kind xs → new ≡ body_due kind (left - length xs) (counted_by (length xs) spot) → end ≡ front ++ xs
     → IsFed allowed count fed (putting [] spot) ((given ++ front) ++ spot.put)
@@ -229,7 +242,8 @@ body_given allowed kind count left (x ∷ xs) spot new fed given front end below
     let behind : record spot { front = []; offset = spot.offset + len } ≡ counted_by len spot =
     ap (λ (z : List ℕ). record spot { front = z; offset = spot.offset + len }) (sym bare) in
     given_on given front spot.put end new.put (x ∷ xs) none (rw (put, append-nil) all) (λ out fed_is.
-    rw (e, ← behind) (come allowed xs kind s.Between count (left - len) n x spot.offset (spot.offset + len) [] fed out spot
+    rw (e, ← behind) (come allowed xs kind s.Between count (left - len) n x spot.offset (spot.offset + len) [] fed out
+    spot
     below (omega arith) refl (ends_by kind (x ∷ xs) text) (rw begin at fed_is))) is
 
 -- ---- a title
@@ -258,7 +272,8 @@ title_comes allowed (y ∷ ys) front count x left place named offset end title h
     (y ∷ ys, header, rw parts at q, rw parts at taken)
     (λ behind other is_title. (enters w.Nothing other (record next { front = [] })).faults)) in
     rw (append_assoc fed (x ∷ []) (y ∷ ys))
-    at (title_comes allowed ys (front ++ x ∷ []) count y left (title_place front old) named (offset + 1) end title header
+    at (title_comes allowed ys (front ++ x ∷ []) count y left (title_place front old) named (offset + 1) end title
+    header
     (fed ++ x ∷ []) out (below_rest x (y ∷ ys) below) q taken parts (omega (arith, on)) (begun front x _ ∙ from)
     (rw (append-nil out) at led))
 

@@ -98,12 +98,12 @@ first_title (b ∷ bytes) are long =
     elim (title_or_refused b (take n bytes) are.0 (AreBytes-take n bytes are.1) fits) [
       | inl r ↦ inl r
       | inr o ↦ inr (record {
-          title = b ∷ take n bytes;
-          rest = drop n bytes;
-          header = o.0;
-          is_title = o.1;
-          is = ap (λ (z : List ℕ). b ∷ z) (sym (take-append-drop n bytes));
-        })
+        title = b ∷ take n bytes;
+        rest = drop n bytes;
+        header = o.0;
+        is_title = o.1;
+        is = ap (λ (z : List ℕ). b ∷ z) (sym (take-append-drop n bytes));
+      })
     ]
 
 pub at_title : (i : Within) → IsAtTitle (place_of i)
@@ -140,7 +140,8 @@ module _ (count b : ℕ) (byte : b < 256) (bytes output : List ℕ) (spot : Spot
       (Syntax (length due.before)) (spelling due.marks) consumed)
       → Broken spot.allowed (with_byte b spot).place count (bytes ++ b ∷ []) (output ++ [])
   broken_title need each =
-      breaks (spot.front ++ b ∷ []) (reaches due.here) (here_spelled due.here) whole_is need (rw (named, append-nil output, due.out) each)
+      breaks (spot.front ++ b ∷ []) (reaches due.here) (here_spelled due.here) whole_is need
+      (rw (named, append-nil output, due.out) each)
 
   -- No title that is taken begins so.
   none_fault : NoneTaken spot.allowed (spot.front ++ b ∷ []) → (y : List ℕ) → AreBytes y → 8 ≤ length y → (consumed : ℕ)
@@ -151,14 +152,18 @@ module _ (count b : ℕ) (byte : b < 256) (bytes output : List ℕ) (spot : Spot
       elim (first_title all (AreBytes-append (spot.front ++ b ∷ []) y sound are)
       (omega (arith, long, length-append (spot.front ++ b ∷ []) y, length-append spot.front (b ∷ [])))) [
         | inl r ↦ (1, NoTitle (at_title spot.within) r)
-        | inr o ↦ (length o.title, LongTitle o.header o.rest (at_title spot.within) o.is_title
-            (λ taken. never y o.title o.rest o.header o.is_title taken o.is) o.is)
+        | inr o ↦ (
+          length o.title,
+          LongTitle o.header o.rest (at_title spot.within) o.is_title
+              (λ taken. never y o.title o.rest o.header o.is_title taken o.is) o.is,
+        )
       ]
 
   title_step : (new : Spot) → TitleStep (with_byte b spot) new → spot.phase ≡ p.Title
       → Holds spot.allowed count (bytes ++ b ∷ []) new (output ++ new.put)
   title_step new (cut c some may) e =
-      let front : FrontAt spot.allowed spot.within (length due.before) (title_place spot.front spot) (spot.front ++ b ∷ []) =
+      let front : FrontAt spot.allowed spot.within (length due.before) (title_place spot.front spot)
+      (spot.front ++ b ∷ []) =
       inr (
         sound,
         c,
@@ -174,7 +179,8 @@ module _ (count b : ℕ) (byte : b < 256) (bytes output : List ℕ) (spot : Spot
       let o = continued (spot.front ++ b ∷ []) y (omega (arith, length-append spot.front (b ∷ []))) sound are c long in
       (_, continued_fault spot.within o ((enters spot.within o.header _).faults (all o.more o.header o.is_title))))
   title_step new (whole header q taken) e =
-      rw (whole_is, due.out) (title_leads spot.allowed count due.before (spot.front ++ b ∷ []) due.marks spot.phase spot.left
+      rw (whole_is, due.out) (title_leads spot.allowed count due.before (spot.front ++ b ∷ []) due.marks spot.phase
+      spot.left
       (title_place spot.front spot) (spot.offset + 1) (some_due due.here) named
       (omega (arith, counted, ap length whole_is, length-append bytes (b ∷ []))) spot.within header due.here q taken)
   title_step new (none never) e = broken_title 8 (none_fault never)
@@ -229,7 +235,8 @@ some_left state zero may inner = absurd (inner (none_left state may))
 some_left state (suc left) may inner = omega arith
 
 module _ (count left b : ℕ) (bytes output : List ℕ) (spot : Spot) (state : State)
-    (due : Bodying spot.allowed k.Text (suc left) count bytes spot output) (state_is : state ≡ after s.Between spot.front) where
+    (due : Bodying spot.allowed k.Text (suc left) count bytes spot output)
+    (state_is : state ≡ after s.Between spot.front) where
   -- The bytes of the body so far.
   abbrev ahead : List ℕ
   ahead = due.part ++ (spot.front ++ b ∷ [])
@@ -257,7 +264,8 @@ module _ (count left b : ℕ) (bytes output : List ℕ) (spot : Spot) (state : S
   broken_text : may_end (after_byte state b) left ≡ false
       → Broken spot.allowed spot.place count (bytes ++ b ∷ []) (output ++ [])
   broken_text never =
-      breaks ahead (body_reached spot.within due.begun) (body_tight due.begun) (body_is k.Text count left b bytes output spot due) left
+      breaks ahead (body_reached spot.within due.begun) (body_tight due.begun)
+      (body_is k.Text count left b bytes output spot due) left
       (λ y are long. (
         length due.part,
         rw (append-nil output, due.out)

@@ -1,6 +1,7 @@
 -- The meaning of a copier's answer for the bytes so far. The bytes alone decide whether a copy has ended or has a
 -- fault.
-use Rattle.std.proofs.Common.{Bool, ◌⊎◌, ◌≡◌, ℕ, zero, suc, true, false, ◌+◌, ◌/◌, ◌%◌, ◌<◌, ◌≤◌, ◌^◌, ◌↔◌, List, [], ◌∷◌, ◌++◌}
+use Rattle.std.proofs.Common.{Bool, ◌⊎◌, ◌≡◌, ℕ, zero, suc, true, false, ◌+◌, ◌/◌, ◌%◌, ◌<◌, ◌≤◌, ◌^◌, ◌↔◌, List, []}
+use Rattle.std.proofs.Common.{◌∷◌, ◌++◌}
 use Rattle.std.proofs.Common.{length, refl, sym, ap, ◌∙◌, arith, inl, inr, append_assoc, append-nil, length-append}
 use Rattle.std.proofs.Common.{slice_index, drop, length-drop}
 use Rattle.std.proofs.lemmas.Bool.{cases_lt}
@@ -71,7 +72,8 @@ pub body_short : {allowed : Spelling} {kind : StringKind} {count left place len 
     → bytes ≡ (before ++ title) ++ (part ++ front) → length (part ++ front) < len → IsWritable (kind_of kind) part
     → output ≡ with_front marks (kind_of kind) len part → ComesTo allowed count bytes Short output
 body_short {kind} {i = i} part front begun is short sound out =
-    comes_at (body_reached i begun) (body_tight begun) is (CutBody {kind = kind_of kind} {consumed = length part} part front short refl
+    comes_at (body_reached i begun) (body_tight begun) is (CutBody {kind = kind_of kind} {consumed = length part} part
+    front short refl
     sound (omega arith) (omega arith) (omega (arith, length-append part front))) out
 
 -- ---- the bytes that are due
@@ -144,7 +146,8 @@ whole_in_front allowed count bytes more marks taken = record {
   spelled = taken.strictly;
 }
 
-pub in_front : {allowed : Spelling} {count : ℕ} {bytes : List ℕ} {marks : List Mark} → IsTakenRun allowed count bytes marks
+pub in_front : {allowed : Spelling} {count : ℕ} {bytes : List ℕ} {marks : List Mark}
+    → IsTakenRun allowed count bytes marks
     → BeginsWithElements allowed count bytes
 in_front {allowed} {count} {bytes} {marks} taken =
     rw (append-nil bytes) at (whole_in_front allowed count bytes [] marks taken)

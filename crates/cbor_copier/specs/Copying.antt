@@ -24,8 +24,9 @@ spot_of c = record {
   put = c.pending;
 }
 
--- `IsCopied allowed count fed given c`: `fed` came to a copy of `count` elements, and for `Shortest` in their shortest
--- spelling. `given` is what they put out, without the pending bytes. If `01` is pending after `18 01`, `given` is empty.
+-- `IsCopied allowed count fed given c`: `fed` came to a copy of `count` elements, and for `Shortest` of such in their
+-- shortest spelling. `given` is what they put out, without the pending bytes. If `01` is pending after `18 01`, `given`
+-- is empty.
 abbrev pub IsCopied : Spelling → ℕ → List ℕ → List ℕ → Copier → Type 0
 IsCopied allowed count fed given c = IsFed allowed count fed (putting [] (spot_of c)) (given ++ c.pending)
 

@@ -12,14 +12,14 @@ use Rattle.cbor_copier.specs.declared.progress.End.TheVariants as e
 use Rattle.cbor_copier.specs.declared.progress.Progress.{Progress}
 use Rattle.cbor_copier.specs.declared.progress.Progress.TheVariants as r
 
--- The bytes are that many elements with these marks, and for `Shortest` in their shortest spelling (RFC 7049, 2.1, 2.2.2
--- and 3.9). `18 01` is one element for `Any` alone.
+-- The bytes are that many elements with these marks, and for `Shortest` in their shortest spelling (RFC 7049, 2.1,
+-- 2.2.2 and 3.9). `18 01` is one element for `Any` alone.
 pub record IsTakenRun (allowed : Spelling) (count : ℕ) (bytes : List ℕ) (marks : List Mark) : Type 0 where
   pub run : IsRun count bytes marks
   pub strictly : allowed ≡ Shortest → IsStrictSpelling bytes marks []
 
--- The bytes are that many elements, for `Shortest` in their shortest spelling. The output is their shortest spelling: as
--- `18 01` and `01` for `Any` (RFC 7049, 2.1, 2.2.2 and 3.9).
+-- The bytes are that many elements, and for `Shortest` in their shortest spelling. The output is their shortest
+-- spelling, as `01` for `18 01` and `Any` (RFC 7049, 2.1, 2.2.2 and 3.9).
 pub record AreSpelled (allowed : Spelling) (count : ℕ) (bytes output : List ℕ) : Type 0 where
   pub marks : List Mark
   pub run : IsTakenRun allowed count bytes marks

@@ -17,8 +17,8 @@ use Rattle.cbor_parser.specs.Strings.{within_after}
 
 -- The parts in turn: whether only the shortest spelling is taken, what is due, the bytes of a title or a character that
 -- are held back, the open strings, and how many elements aren't whole. Then the place that a fault would name, how many
--- bytes came, and what the last byte put out. After `81 19` of two elements, `19` is held back, one element isn't whole,
--- the place is 1 and the offset 2.
+-- bytes came, and what the last byte put out. After `81 19` of two elements, `19` is held back, one element isn't
+-- whole, the place is 1 and the offset 2.
 pub record Spot : Type 0 where
   pub allowed : Spelling
   pub phase : Phase
@@ -98,12 +98,15 @@ element_entered header spot = header_entered header (putting (shortest_title hea
 -- with its shortest title. More opens do not go out, and of the breaks only the last one does (RFC 7049, 2.2.2). So
 -- `5f 5f ff ff` puts out `5f ff`.
 abbrev pub piece_entered : Within → Header → Spot → Spot
-piece_entered after (h.Bytes (Some len)) spot = body_due k.Bytes len (putting (shortest_title (h.Bytes (Some len))) spot)
-piece_entered after (h.Text (Some len)) spot = body_due k.Text len (putting (shortest_title (h.Text (Some len))) spot)
+piece_entered after (h.Bytes (Some len)) spot =
+    body_due k.Bytes len (putting (shortest_title (h.Bytes (Some len))) spot)
+piece_entered after (h.Text (Some len)) spot =
+    body_due k.Text len (putting (shortest_title (h.Text (Some len))) spot)
 piece_entered w.Nothing header spot = element_done (putting (shortest_title h.Break) spot)
 piece_entered (w.Open kind more) header spot = string_open kind more spot
 
--- The same, by the strings that are open after the title, or a fault if the title may not stand there.
+-- The same, by the strings that are open after the title, or a fault if the title may not stand there, as `61` within a
+-- byte string.
 abbrev pub within_entered : Option Within → Header → Spot → Spot
 within_entered None header spot = refused spot
 within_entered (Some after) header spot = piece_entered after header spot

@@ -109,9 +109,9 @@ StepIn (p.Faulted place) spot byte new = ⊥
 abbrev pub Step : Spot → ℕ → Spot → Type 0
 Step spot byte new = StepIn spot.phase spot byte new
 
--- `IsFed allowed count bytes spot output`: to a copy of `count` elements, and for `Shortest` in their shortest spelling,
--- these bytes have led from `start` to the spot, with a `Step` for each. `output` is all that they put out: `01` for
--- `18 01`.
+-- `IsFed allowed count bytes spot output`: to a copy of `count` elements, and for `Shortest` of such in their shortest
+-- spelling, these bytes have led from `start` to the spot, with a `Step` for each. `output` is all that they put out:
+-- `01` for `18 01`.
 pub data IsFed (allowed : Spelling) (count : ℕ) : List ℕ → Spot → List ℕ → Type 0 where
   fresh : IsFed allowed count [] (start allowed count) []
   more : {bytes output : List ℕ} {spot : Spot} (byte : ℕ) (new : Spot) → byte < 256

@@ -6,7 +6,8 @@ ghost use Rattle.ciborium_ll_grammar.specs.declared.spelling.Spelling.TheVariant
 ghost use Rattle.ciborium_ll_grammar.specs.Title.{AreBytes};
 ghost use Rattle.ciborium_ll_grammar.specs.Elements.{Mark, spelling};
 ghost use Rattle.cbor_copier.specs.Copying.{Answers, AnswersEnd, HasCopied, HoldsSome, Keeps, Saves, held, pending};
-ghost use Rattle.cbor_copier.specs.Reading.{AreSpelled, IsTakenRun, Copies, IsEnd, IsFault, IsMore, IsRoom, NoneGoOn, Tells};
+ghost use Rattle.cbor_copier.specs.Reading.{AreSpelled, IsTakenRun, Copies, IsEnd, IsFault, IsMore, IsRoom, NoneGoOn};
+ghost use Rattle.cbor_copier.specs.Reading.{Tells};
 ghost use Rattle.cbor_copier.specs.Reading.{progress_at};
 ghost use Rattle.cbor_copier.specs.declared.copier.Copier.{Copier};
 ghost use Rattle.cbor_copier.specs.declared.progress.Copied.{Copied};
@@ -29,7 +30,8 @@ pub fn one_copy()
 /// Copiers that have read the same bytes and written the same answer the same. The place of a fault is the same, too.
 pub fn one_answer()
     ensures answer { (allowed : Spelling) (count : ℕ) (read written : List ℕ) (one other : Copier)
-        (first second : Progress) → HasCopied allowed count read written one → HasCopied allowed count read written other
+        (first second : Progress) → HasCopied allowed count read written one
+        → HasCopied allowed count read written other
         → Answers one first → Answers other second → first ≡ second }
     ensures end { (allowed : Spelling) (count : ℕ) (read written : List ℕ) (one other : Copier) (first second : End)
         → HasCopied allowed count read written one → HasCopied allowed count read written other
@@ -55,7 +57,8 @@ pub fn exact_answers()
         → Tells allowed count bytes output progress
         → (IsEnd progress ↔ AreSpelled allowed count bytes output) }
     ensures fault { (allowed : Spelling) (count : ℕ) (bytes output : List ℕ) (progress : Progress)
-        → Tells allowed count bytes output progress → (IsRoom progress → ⊥) → (IsFault progress ↔ NoneGoOn allowed count bytes) }
+        → Tells allowed count bytes output progress → (IsRoom progress → ⊥)
+        → (IsFault progress ↔ NoneGoOn allowed count bytes) }
 {}
 
 /// A copier that reads two pieces answers as one that reads both of them, joined. So it is if it took the first piece

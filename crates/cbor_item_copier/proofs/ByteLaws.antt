@@ -2,27 +2,17 @@
 use Rattle.std.proofs.Common.{◌≡◌, ℕ, ◌%◌, ◌<◌, List, [], ◌∷◌, ◌++◌, length, refl, ap, arith}
 use Rattle.std.specs.List.{AllByRecursion}
 use Rattle.ciborium_ll_grammar.specs.declared.hdr.Header.{Header}
-use Rattle.ciborium_ll_grammar.specs.Title.{Major, major_code, Size, affix_of, IsTitle, numbered, alone, AreBytes}
+use Rattle.ciborium_ll_grammar.specs.Title.{IsTitle, AreBytes}
 use Rattle.ciborium_ll_grammar.specs.Strings.{Kind, Bytes, Text, IsString, definite, indefinite, AreStrings, none, more}
 use Rattle.ciborium_ll_grammar.specs.Strings.{IsWritable}
 use Rattle.ciborium_ll_grammar.specs.Elements.{AreWritable, Mark, Plain, string_marks, IsElement, plain, string, IsRun}
 use Rattle.ciborium_ll_grammar.specs.Elements.{done, next}
 use Rattle.ciborium_ll_grammar.proofs.AffixLaws.{AreBytes-append}
 use Rattle.ciborium_ll_grammar.proofs.ElementLaws.{AreWritable-append, AreWritable-left, AreWritable-right}
-use Rattle.ciborium_ll_grammar.proofs.TitleLaws.{minor_below}
+use Rattle.cbor_copier.proofs.LiveLaws.{title_bytes}
 use Rattle.ciborium_ll_text.specs.Text.{IsCharacter, IsCharacters, joined}
 
 -- ---- titles and texts are bytes
-
-affix_bytes : (s : Size) (n : ℕ) → AreBytes (affix_of s n)
-affix_bytes s n = grind arith
-
-major_below : (m : Major) → major_code m < 8
-major_below m = grind arith
-
-title_bytes : {t : List ℕ} {x : Header} → IsTitle t x → AreBytes t
-title_bytes (numbered m s n q) = (omega (arith, minor_below s n q, major_below m), affix_bytes s n)
-title_bytes (alone m y o) = (omega (arith, major_below m), tt)
 
 character_bytes : {c : List ℕ} → IsCharacter c → AreBytes c
 character_bytes q = grind arith

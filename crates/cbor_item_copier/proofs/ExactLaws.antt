@@ -17,7 +17,7 @@ module _ (s : Spelling) (d : ℕ) (bytes : List ℕ) where
   same_spelled output more some whole all =
       let one = whole.1 in
       let other = all.1 in
-      let same = same_runs whole.0 bytes one.marks one.run all.0 bytes other.marks other.run refl in
+      let same = same_runs whole.0 bytes one.marks one.run.run all.0 bytes other.marks other.run.run refl in
       let out : output ++ more ≡ output = one.spelled ∙ (ap spelling same.1 ∙ sym other.spelled) in
       omega (arith, some, ap (length {A = ℕ}) out, length-append output more)
 

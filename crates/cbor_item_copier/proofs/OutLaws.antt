@@ -2,7 +2,7 @@
 use Rattle.std.proofs.Common.{◌≡◌, ℕ, ◌+◌, ◌-◌, ◌<◌, ◌⊎◌, List, [], ◌++◌, length, refl, sym, ap, ◌∙◌, arith, inl}
 use Rattle.std.proofs.Common.{inr, append_assoc, append-nil, length-append}
 use Rattle.std.proofs.lemmas.Bool.{cases_lt}
-use Rattle.ciborium_ll_grammar.specs.declared.spelling.Spelling.TheVariants.{Any}
+use Rattle.ciborium_ll_grammar.specs.declared.spelling.Spelling.TheVariants.{Any, Shortest}
 use Rattle.ciborium_ll_grammar.specs.Strings.{Kind, kind_header}
 use Rattle.ciborium_ll_grammar.specs.Elements.{Mark, spelling, IsRun}
 use Rattle.ciborium_ll_grammar.specs.Faults.{Answer, Short, Point, Due, Reaches, due, inside, body, body_inside}
@@ -14,9 +14,14 @@ use Rattle.cbor_copier.specs.declared.phase.Phase.{Phase}
 use Rattle.cbor_copier.specs.declared.phase.Phase.TheVariants as p
 use Rattle.cbor_copier.specs.Reading.{ComesTo, NoneGoOn, TellsWhole}
 use Rattle.cbor_copier.specs.Telling.{progress_in}
-use Rattle.cbor_copier.proofs.Reached.{between}
-use Rattle.cbor_copier.proofs.TellLaws.{title_short, in_front}
+use Rattle.cbor_parser.specs.declared.strings.Within.{Within}
+use Rattle.cbor_copier.proofs.Reached.{Tight, between}
+use Rattle.cbor_copier.proofs.TellLaws.{any_run, title_short, in_front}
 use Rattle.cbor_item_copier.proofs.RunLaws.{title_some, run_long, run_front, same_runs}
+
+-- A copy of any spelling needs no strict spelling.
+pub lenient : {bytes : List ℕ} {marks : List Mark} {i : Within} → Tight Any bytes marks i
+lenient short = absurd cc
 
 -- ---- with any number of elements, if more are due
 
@@ -64,7 +69,7 @@ recount : {count : ℕ} {bytes : List ℕ} (f : HasFault Any count bytes) (m : �
     → HasFault Any m bytes
 recount f m fewer = search ((standing f.reach).again m fewer)
 
-module _ {count : ℕ} {bytes output : List ℕ} (c : ComesTo count bytes Short output) where
+module _ {count : ℕ} {bytes output : List ℕ} (c : ComesTo Any count bytes Short output) where
   long : length bytes ≡ length (standing c.fault.reach).elements + length (standing c.fault.reach).behind
       + length c.fault.ahead
   long =
@@ -72,19 +77,21 @@ module _ {count : ℕ} {bytes output : List ℕ} (c : ComesTo count bytes Short 
       let o = standing f.reach in
       omega (arith, ap length f.is, ap length o.is, length-append f.before f.ahead, length-append o.elements o.behind)
 
-  cut_again : (m : ℕ) → length bytes < m → ComesTo m bytes Short output
+  cut_again : (m : ℕ) → length bytes < m → ComesTo Any m bytes Short output
   unfolding recount
   cut_again m fewer =
       let o = standing c.fault.reach in
       let few = run_long o.number o.elements o.element_marks o.run in
       record { fault = recount c.fault m (omega (arith, few, fewer, long)); answered = c.answered; written = c.written }
 
-pub cut_in : (phase : Phase) (count m : ℕ) (bytes output : List ℕ) → TellsWhole count bytes output (progress_in phase)
-    → (NoneGoOn count bytes → ⊥) → length bytes < m → ComesTo m bytes Short output
+pub cut_in : (phase : Phase) (count m : ℕ) (bytes output : List ℕ)
+    → TellsWhole Any count bytes output (progress_in phase)
+    → (NoneGoOn Any count bytes → ⊥) → length bytes < m → ComesTo Any m bytes Short output
 cut_in p.Ended count m bytes output says goes fewer =
-    let few = run_long count bytes says.marks says.run in
+    let few = run_long count bytes says.marks says.run.run in
     title_short {left = m - count} [] (between
-    (record { before = count; run = says.run; counted = omega (arith, few, fewer) }) (omega (arith, few, fewer)))
+    (record { before = count; run = says.run.run; counted = omega (arith, few, fewer) }) (omega (arith, few, fewer))
+    lenient)
     (sym (append-nil bytes)) tt says.spelled
 cut_in (p.Faulted place) count m bytes output says goes fewer = absurd (goes says.0)
 cut_in phase count m bytes output says goes fewer = cut_again says.0 m fewer
@@ -98,12 +105,12 @@ short_written (CutTitle here is_cut) e is_short = refl
 short_written fault e is_short = absurd cc
 
 pub whole_in : {count : ℕ} {bytes output : List ℕ} (n : ℕ) (marks : List Mark) → IsRun n bytes marks
-    → ComesTo count bytes Short output → output ≡ spelling marks
+    → ComesTo Any count bytes Short output → output ≡ spelling marks
 whole_in {bytes = bytes} n marks run c =
     let f = c.fault in
     let o = standing f.reach in
     elim (cases_lt o.number n) [
-      | inl less ↦ absurd (no_fault Any n bytes (in_front run) (recount f n less))
+      | inl less ↦ absurd (no_fault Any n bytes (in_front (any_run run)) (recount f n less))
       | inr enough ↦ (
           let front = run_front n o.number o.elements o.element_marks o.run enough in
           let rest = o.behind ++ f.ahead in

@@ -5,6 +5,7 @@ use Rattle.std.proofs.lemmas.List.{take-append-drop, take-append-le, length-take
 use Rattle.std.proofs.Math.Nat.{eq-or-lt_of_le}
 use Rattle.std.proofs.Math.Seq.{take-append-add, take-length}
 use Rattle.ciborium_ll_grammar.specs.declared.spelling.Spelling.{Spelling}
+use Rattle.ciborium_ll_grammar.specs.declared.spelling.Spelling.TheVariants.{Any}
 use Rattle.ciborium_ll_grammar.specs.Title.{AreBytes}
 use Rattle.ciborium_ll_grammar.specs.Elements.{Mark, IsRun, spelling}
 use Rattle.ciborium_ll_grammar.specs.Items.{IsItem}
@@ -199,7 +200,7 @@ answers_unless copier progress answers counted = answers
 
 -- ---- before the first byte
 
-start_clear : (count : ℕ) → (copies_from.start count).front ≡ []
+start_clear : (count : ℕ) → (copies_from.start Any count).front ≡ []
 start_clear zero = refl
 start_clear (suc count) = refl
 
@@ -209,8 +210,8 @@ pub fresh_clear : (s : Spelling) (d : ℕ) (written : List ℕ) (copier : ItemCo
 unfolding HasCopied copy.held copy.pending
 fresh_clear s d written copier is =
     let same = one_fed s d [] (written ++ pending copier) [] (item_spot copier) (start s d) (elements_spot copier)
-    (copies_from.start most) is
-    (fresh_fed s d (start s d) (copies_from.start most) [] fresh copies_from.fresh) in
+    (copies_from.start Any most) is
+    (fresh_fed s d (start s d) (copies_from.start Any most) [] fresh copies_from.fresh) in
     let front : copier.copier.front ≡ [] = ap (λ (z : Elements). z.front) same.1 ∙ start_clear most in
     let none = no_parts written (pending copier) same.2 in
     (none.0, none.1, omega (arith, ap (length {A = ℕ}) front, ap (length {A = ℕ}) none.1))

@@ -3,7 +3,7 @@ use Rattle.std.proofs.Common.{◌≡◌, ℕ, zero, suc, ◌-◌, ◌*◌, ◌<�
 use Rattle.std.proofs.Common.{refl, sym, ap, ◌∙◌, arith, inl, inr, append_assoc, length-append}
 use Rattle.std.proofs.lemmas.Bool.{cases_lt}
 use Rattle.ciborium_ll_grammar.specs.declared.spelling.Spelling.{Spelling}
-use Rattle.ciborium_ll_grammar.specs.declared.spelling.Spelling.TheVariants.{Any}
+use Rattle.ciborium_ll_grammar.specs.declared.spelling.Spelling.TheVariants.{Any, Shortest}
 use Rattle.ciborium_ll_grammar.specs.declared.hdr.Header.{Header}
 use Rattle.ciborium_ll_grammar.specs.declared.hdr.Header.TheVariants as h
 use Rattle.ciborium_ll_grammar.specs.Title.{IsTitle, AreBytes}
@@ -17,8 +17,7 @@ use Rattle.ciborium_ll_grammar.proofs.ElementLaws.{bytes_writable, one_element}
 use Rattle.ciborium_ll_grammar.proofs.StepLaws.{add_element}
 use Rattle.ciborium_ll_grammar.proofs.StringLaws.{break_title}
 use Rattle.cbor_copier.specs.Reading.{NoneGoOn}
-use Rattle.cbor_copier.proofs.TellLaws.{in_front, whole_in_front}
-use Rattle.cbor_copier.proofs.EnterLaws.{lenient}
+use Rattle.cbor_copier.proofs.TellLaws.{any_run, in_front, whole_in_front}
 use Rattle.cbor_copier.proofs.LiveLaws.{run_goes}
 use Rattle.cbor_item_copier.proofs.ByteLaws.{as_bytes, are_bytes, same_bytes, as_append, run_as}
 
@@ -107,7 +106,7 @@ same_runs n w ms (next {count = i} {first = x} {rest = y} {marks = os} {others =
     (ap suc s.0, cc (o.1, s.1))
 
 in_none : (w : List ℕ) → BeginsWithElements Any zero w
-in_none w = whole_in_front zero [] w [] done
+in_none w = whole_in_front Any zero [] w [] (any_run done)
 
 -- A run begins with each smaller number of elements.
 pub run_front : (m n : ℕ) (w : List ℕ) (ms : List Mark) → IsRun n w ms → m ≤ n → BeginsWithElements Any m w
@@ -117,16 +116,23 @@ run_front (suc m) n w ms (next {count = j} {first = x} {rest = y} {marks = ns} {
     let o = run_front m j y os rest (omega (arith, fewer)) in
     let is : x ++ y ≡ (x ++ o.elements) ++ o.rest =
     ap (λ (z : List ℕ). x ++ z) o.is ∙ sym (append_assoc x o.elements o.rest) in
-    search (next element o.run, lenient)
+    record {
+      elements = x ++ o.elements;
+      marks = ns ++ o.marks;
+      rest = o.rest;
+      run = next element o.run;
+      is = is;
+      spelled = λ short. absurd cc;
+    }
 
 -- If some number of elements begins with the bytes, each number does.
 run_goes_on : (count n : ℕ) (bytes more : List ℕ) (ms : List Mark) → AreBytes more → IsRun n (bytes ++ more) ms
-    → NoneGoOn count bytes → ⊥
+    → NoneGoOn Any count bytes → ⊥
 run_goes_on count n bytes more ms are run never =
     elim (cases_lt n count) [
       | inl fewer ↦ (
-          let o = run_goes {count = count} (count - n)
-          (record { before = n; run = run; counted = omega (arith, fewer) }) in
+          let o = run_goes {allowed = Any} {count = count} (count - n)
+          (record { before = n; run = run; counted = omega (arith, fewer) }) (λ short. absurd cc) in
           never (more ++ o.more) (AreBytes-append more o.more are o.more_bytes)
           (rw (append_assoc bytes more o.more) at (in_front o.run))
           )
@@ -136,7 +142,7 @@ run_goes_on count n bytes more ms are run never =
 -- If an item begins with the bytes, each number of elements does.
 pub item_goes_on : (count : ℕ) (s : Spelling) (d : ℕ) (bytes more : List ℕ) → AreBytes bytes
     → IsItem s d (bytes ++ more)
-    → NoneGoOn count bytes → ⊥
+    → NoneGoOn Any count bytes → ⊥
 item_goes_on count s d bytes more are item never =
     let o = item_run s d (bytes ++ more) item in
     let a = run_as o.count (bytes ++ more) o.marks o.run in

@@ -2,6 +2,7 @@
 use Rattle.std.proofs.Common.{◌≡◌, ℕ, suc, ◌+◌, ◌-◌, ◌<◌, ◌≤◌, true, List, [], ◌∷◌, ◌++◌, length, refl, sym, ap}
 use Rattle.std.proofs.Common.{subst, ◌∙◌, arith, append-nil, length-append}
 use Rattle.ciborium_ll_grammar.specs.declared.spelling.Spelling.{Spelling}
+use Rattle.ciborium_ll_grammar.specs.declared.spelling.Spelling.TheVariants.{Any, Shortest}
 use Rattle.ciborium_ll_grammar.specs.Title.{AreBytes}
 use Rattle.ciborium_ll_grammar.specs.Elements.{Mark, IsRun, spelling}
 use Rattle.ciborium_ll_grammar.specs.Items.{IsItem}
@@ -21,7 +22,7 @@ use Rattle.cbor_checker.proofs.ExactLaws.{fault_exact}
 use Rattle.cbor_checker.proofs.OneSpot.{one_spot}
 use Rattle.cbor_item_copier.specs.Copying.{most, AreTaken, AreFed}
 use Rattle.cbor_item_copier.specs.Reading.{IsCutCopy}
-use Rattle.cbor_item_copier.proofs.OutLaws.{cut_in, whole_in}
+use Rattle.cbor_item_copier.proofs.OutLaws.{cut_in, lenient, whole_in}
 use Rattle.cbor_item_copier.proofs.RunLaws.{item_goes_on}
 
 -- ---- the bytes that are copied
@@ -46,12 +47,12 @@ one_fed s d fed output others item other a b f g =
     let one = one_spot s d fed item other f.checked g.checked in
     let bytes = same_taken item.phase fed g.bytes f.bytes
     (subst (λ (z : Spot). AreTaken z.phase fed g.bytes) (sym one) g.taken) f.taken in
-    let same = one_copy.one_spot most f.bytes output others a b f.copied (rw bytes at g.copied) in
+    let same = one_copy.one_spot Any most f.bytes output others a b f.copied (rw bytes at g.copied) in
     (one, same.0, same.1)
 
 -- At the start, no byte came to the checker or to the copier of elements.
 pub fresh_fed : (s : Spelling) (d : ℕ) (new : Spot) (elements : Elements) (output : List ℕ) → IsFed s d [] new
-    → AreElementsFed most [] elements output → AreFed s d [] new elements output
+    → AreElementsFed Any most [] elements output → AreFed s d [] new elements output
 fresh_fed s d new elements output checked copied =
     search (subst (λ (z : Spot). AreTaken z.phase [] []) (one_spot s d [] (start s d) new fresh checked) refl)
 
@@ -72,7 +73,7 @@ no_step (p.Faulted fault) spot new b has step = step
 no_step phase spot new b has step = has
 
 pub sound_goes : (s : Spelling) (d : ℕ) (fed : List ℕ) (spot : Spot) → IsFed s d fed spot → (IsAtFault spot → ⊥)
-    → NoneGoOn most fed → ⊥
+    → NoneGoOn Any most fed → ⊥
 sound_goes s d fed spot is sound never =
     sound ((fault_exact s d fed spot is).1 (λ behind i.
     item_goes_on most s d fed behind (fed_bytes s d fed spot is) i never))
@@ -80,14 +81,14 @@ sound_goes s d fed spot is sound never =
 -- Some elements begin with the bytes before the last byte.
 pub before_goes : (s : Spelling) (d : ℕ) (fed : List ℕ) (spot : Spot) → IsFed s d fed spot
     → (before : List ℕ) (last : ℕ)
-    → fed ≡ before ++ last ∷ [] → NoneGoOn most before → ⊥
+    → fed ≡ before ++ last ∷ [] → NoneGoOn Any most before → ⊥
 before_goes s d fed spot fresh before last e never = omega (arith, ap length e, length-append before (last ∷ []))
 before_goes s d fed spot (more {bytes = a} {spot = old} b byte is step) before last e never =
     sound_goes s d a old is (λ has. no_step old.phase old spot b has step)
     (rw (one_copy.same_last a before b last e).0 never)
 
 goes_in : (phase : Phase) (s : Spelling) (d : ℕ) (fed bytes : List ℕ) (spot : Spot) → phase ≡ spot.phase
-    → IsFed s d fed spot → AreTaken phase fed bytes → NoneGoOn most bytes → ⊥
+    → IsFed s d fed spot → AreTaken phase fed bytes → NoneGoOn Any most bytes → ⊥
 goes_in (p.Faulted fault) s d fed bytes spot at is taken never =
     before_goes s d fed spot is bytes taken.0 taken.1 never
 goes_in phase s d fed bytes spot at is taken never =
@@ -120,8 +121,16 @@ module _ (s : Spelling) (d : ℕ) (fed output : List ℕ) (item : Spot) (element
       let all = are.bytes ++ behind in
       let fewer : length all < length all + 1 = omega arith in
       let whole = rw (item_taken behind i) at run in
-      let goes = run_goes (most - count) (record { before = count; run = whole; counted = omega (arith, few) }) in
-      let o = fed_to behind most are.bytes output elements are.copied bytes goes in
+      let goes = run_goes {allowed = Any} (most - count) (record {
+        before = count;
+        run = whole;
+        counted = omega (
+          arith,
+          few,
+        );
+      })
+      lenient in
+      let o = fed_to behind Any most are.bytes output elements are.copied bytes goes in
       let short = cut_in o.1.phase most (length all + 1) all (output ++ o.0) (told o.2)
       (λ never. never goes.more goes.more_bytes (in_front goes.run)) fewer in
       (o.0, sym (whole_in count marks whole short))

@@ -5,6 +5,7 @@ use Rattle.std.proofs.Common.{get_or, take-append-drop}
 use Rattle.std.proofs.lemmas.Bool.{cases_lt}
 use Rattle.std.proofs.lemmas.List.{take_all, take_more, length-take-le, take-take}
 use Rattle.ciborium_ll_grammar.specs.declared.spelling.Spelling.{Spelling}
+use Rattle.ciborium_ll_grammar.specs.declared.spelling.Spelling.TheVariants.{Any}
 use Rattle.ciborium_ll_grammar.specs.Title.{AreBytes}
 use Rattle.ciborium_ll_grammar.proofs.AffixLaws.{AreBytes-append, AreBytes-take}
 use Rattle.ciborium_ll_text.proofs.Lists.{length_zero}
@@ -88,10 +89,10 @@ some_pending copier cr.Room on answers = (room_answers copier cr.Room answers).0
 some_pending copier progress on answers = absurd on
 
 -- If nothing was pending and no byte is taken, nothing is pending after the call.
-none_pending : (fed given out : List ℕ) (old new : Copier) → HasCopied most fed given old → pending_of old ≡ []
-    → HasCopied most fed (given ++ out) new → pending_of new ≡ []
+none_pending : (fed given out : List ℕ) (old new : Copier) → HasCopied Any most fed given old → pending_of old ≡ []
+    → HasCopied Any most fed (given ++ out) new → pending_of new ≡ []
 none_pending fed given out old new was none is =
-    let same = one_output most fed given (given ++ out) old new was is in
+    let same = one_output Any most fed given (given ++ out) old new was is in
     length_zero (pending_of new) (omega (
       arith,
       ap length same,
@@ -113,7 +114,8 @@ given_or_full cr.TooLong bytes written room full none = inl (none (λ is. is))
 
 -- The bytes that were to be written are written, as far as there is room. No byte is read.
 pub only_written : (given put : List ℕ) (taken : ℕ) (old new : Copier)
-    → ((read : List ℕ) → HasCopied most read given old → HasCopied most (read ++ take taken []) (given ++ put) new)
+    → ((read : List ℕ) → HasCopied Any most read given old → HasCopied Any most (read ++ take taken []) (given ++ put)
+    new)
     → (allowed : Spelling) (depth : ℕ) (fed : List ℕ) (item : Spot)
     → AreFed allowed depth fed item (putting [] (copy.spot_of old)) (given ++ pending_of old)
     → AreFed allowed depth fed item (putting [] (copy.spot_of new)) ((given ++ put) ++ pending_of new)
@@ -130,26 +132,27 @@ only_written given put taken old new goes allowed depth fed item was = record {
     take_none (suc n) = refl
 
 -- If elements go on and there is room, the copier answers `More`.
-takes_more : (now output : List ℕ) (progress : Copied) → (NoneGoOn most now → ⊥) → length now + 1 ≤ most
-    → told.Tells most now output progress → (told.IsRoom progress → ⊥) → (told.IsMore progress → ⊥) → ⊥
+takes_more : (now output : List ℕ) (progress : Copied) → (NoneGoOn Any most now → ⊥) → length now + 1 ≤ most
+    → told.Tells Any most now output progress → (told.IsRoom progress → ⊥) → (told.IsMore progress → ⊥) → ⊥
 takes_more now output cr.More goes fits says room never = never tt
 takes_more now output cr.Room goes fits says room never = room tt
-takes_more now output cr.Ended goes fits says room never = omega (arith, run_long most now says.marks says.run, fits)
+takes_more now output cr.Ended goes fits says room never = omega
+    (arith, run_long most now says.marks says.run.run, fits)
 takes_more now output (cr.Syntax place) goes fits says room never = goes says.0
 takes_more now output cr.TooLong goes fits says room never = omega (arith, says.2, fits)
 
 -- A copier takes a whole piece with which some elements begin. The piece has at most one byte, or there is room for the
 -- piece.
 module _ (fed given bytes out : List ℕ) (taken room : ℕ) (progress : Copied) (old new : Copier)
-    (within : taken ≤ length bytes) (are : AreBytes bytes) (goes : NoneGoOn most (fed ++ bytes) → ⊥)
+    (within : taken ≤ length bytes) (are : AreBytes bytes) (goes : NoneGoOn Any most (fed ++ bytes) → ⊥)
     (counted : length fed + length bytes ≤ most) (fits : (length bytes ≤ 1) ⊎ (length bytes + 8 ≤ room))
-    (was : HasCopied most fed given old) (none : pending_of old ≡ [])
-    (is : HasCopied most (fed ++ take taken bytes) (given ++ out) new)
-    (says : told.Tells most (fed ++ take taken bytes) (given ++ out) progress)
+    (was : HasCopied Any most fed given old) (none : pending_of old ≡ [])
+    (is : HasCopied Any most (fed ++ take taken bytes) (given ++ out) new)
+    (says : told.Tells Any most (fed ++ take taken bytes) (given ++ out) progress)
     (answer : copy.AnswersPiece new progress)
     (all : told.IsMore progress → taken ≡ length bytes)
     (has_room : length bytes + 8 ≤ room → told.IsRoom progress → ⊥) where
-  some_go : NoneGoOn most (fed ++ take taken bytes) → ⊥
+  some_go : NoneGoOn Any most (fed ++ take taken bytes) → ⊥
   some_go never =
       let front = take taken bytes in
       let rest = drop taken bytes in
@@ -169,7 +172,7 @@ module _ (fed given bytes out : List ℕ) (taken room : ℕ) (progress : Copied)
         | inr wide ↦ has_room wide on
       ]
 
-  pub piece_copied : HasCopied most (fed ++ bytes) (given ++ out) new
+  pub piece_copied : HasCopied Any most (fed ++ bytes) (given ++ out) new
   piece_copied =
       elim (cases_lt taken (length bytes)) [
         | inl short ↦ absurd (takes_more (fed ++ take taken bytes) (given ++ out) progress some_go
@@ -204,7 +207,7 @@ module _ (s : Spelling) (d : ℕ) (fed bytes : List ℕ) (taken kept : ℕ) (old
   less_last one = rw (← one, take_more bytes kept 0 (omega (arith, one, within)), append_assoc)
 
   -- Some elements begin with the copied bytes.
-  step_goes : AreKept new taken kept → NoneGoOn most (fed ++ take kept bytes) → ⊥
+  step_goes : AreKept new taken kept → NoneGoOn Any most (fed ++ take kept bytes) → ⊥
   step_goes (inl fault) never =
       before_goes s d (fed ++ take taken bytes) new checked (fed ++ take kept bytes) (get_or bytes kept 0)
       (less_last fault.1) never
@@ -212,9 +215,9 @@ module _ (s : Spelling) (d : ℕ) (fed bytes : List ℕ) (taken kept : ℕ) (old
 
   -- If a copier of elements takes the copied bytes, the copier of an item takes the bytes of the checker.
   pub step_fed : AreKept new taken kept → length fed + taken ≤ most → (given out : List ℕ) (copier copier' : Copier)
-      → ((NoneGoOn most (fed ++ take kept bytes) → ⊥) → AreBytes (take kept bytes)
-      → length fed + length (take kept bytes) ≤ most → HasCopied most fed given copier
-      → HasCopied most (fed ++ take kept bytes) (given ++ out) copier')
+      → ((NoneGoOn Any most (fed ++ take kept bytes) → ⊥) → AreBytes (take kept bytes)
+      → length fed + length (take kept bytes) ≤ most → HasCopied Any most fed given copier
+      → HasCopied Any most (fed ++ take kept bytes) (given ++ out) copier')
       → AreFed s d fed old (putting [] (copy.spot_of copier)) (given ++ pending_of copier)
       → AreFed s d (fed ++ take taken bytes) new (putting [] (copy.spot_of copier'))
       ((given ++ out) ++ pending_of copier')

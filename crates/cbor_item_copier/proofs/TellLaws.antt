@@ -4,9 +4,11 @@ use Rattle.std.proofs.Common.{◌∙◌, arith, inl, inr, append-nil, length-app
 use Rattle.std.proofs.lemmas.Bool.{eqb-true, eqb-false}
 use Rattle.ciborium_ll_text.proofs.Lists.{length_zero}
 use Rattle.ciborium_ll_grammar.specs.declared.spelling.Spelling.{Spelling}
+use Rattle.ciborium_ll_grammar.specs.declared.spelling.Spelling.TheVariants.{Any}
 use Rattle.ciborium_ll_grammar.specs.Title.{affix_len}
 use Rattle.cbor_copier.specs.Spots.{Spot as Elements}
 use Rattle.cbor_copier.specs.Steps.{IsFed as AreElementsFed, fresh as start, more as go}
+use Rattle.cbor_copier.proofs.TellLaws.{any_run}
 use Rattle.cbor_checker.specs.declared.phase.Phase.{Phase}
 use Rattle.cbor_checker.specs.declared.phase.Phase.TheVariants as p
 use Rattle.cbor_checker.specs.declared.progress.End.{End as CheckedEnd}
@@ -74,7 +76,7 @@ module _ (s : Spelling) (d : ℕ) (fed output : List ℕ) (item : Spot) (element
   whole_told p.Ended taken says =
       let o = item_run s d are.bytes (rw taken at says.0) in
       let out = spelled s d fed output item elements are o.count o.marks o.run in
-      (says, rw taken (o.count, record { marks = o.marks; run = o.run; spelled = out }))
+      (says, rw taken (o.count, record { marks = o.marks; run = any_run o.run; spelled = out }))
   whole_told (p.Faulted fault) taken says =
       (says, record { before = are.bytes; last = taken.0; is = taken.1; cut = cut s d fed output item elements are })
   whole_told phase taken says = (says, rw taken (cut s d fed output item elements are))
@@ -121,7 +123,7 @@ none_taken (p.Faulted fault) bytes taken =
     absurd (omega (arith, ap length taken.1, length-append bytes (taken.0 ∷ [])))
 none_taken phase bytes taken = sym taken
 
-none_out : (fed output : List ℕ) (elements : Elements) → AreElementsFed most fed elements output → fed ≡ []
+none_out : (fed output : List ℕ) (elements : Elements) → AreElementsFed Any most fed elements output → fed ≡ []
     → output ≡ []
 none_out fed output elements start e = refl
 none_out fed output elements (go {bytes = a} b new byte is step) e =

@@ -1,6 +1,7 @@
 -- A copier of an item, by the states of its checker and its copier of elements.
 use Rattle.std.specs.Prelude.{◌≡◌, ℕ, List, [], ◌∷◌, ◌++◌}
 use Rattle.ciborium_ll_grammar.specs.declared.spelling.Spelling.{Spelling}
+use Rattle.ciborium_ll_grammar.specs.declared.spelling.Spelling.TheVariants.{Any}
 use Rattle.cbor_copier.specs.declared.copier.Copier.{Copier}
 use Rattle.cbor_copier.specs.Copying as copy
 use Rattle.cbor_copier.specs.Spots.{Spot as Elements, putting}
@@ -35,7 +36,7 @@ pub record AreFed (allowed : Spelling) (depth : ℕ) (fed : List ℕ) (item : Sp
   pub checked : IsFed allowed depth fed item
   pub bytes : List ℕ
   pub taken : AreTaken item.phase fed bytes
-  pub copied : AreElementsFed most bytes elements output
+  pub copied : AreElementsFed Any most bytes elements output
 
 -- The bytes that were put out and are to be written: `01` after `18 01` without room.
 abbrev pub pending_of : Copier → List ℕ

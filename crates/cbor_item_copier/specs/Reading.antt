@@ -2,6 +2,7 @@
 -- in the words of the grammar (RFC 7049, 2.1 to 2.4 and 3.9).
 use Rattle.std.specs.Prelude.{◌≡◌, ℕ, ◌<◌, ◌≤◌, ◌⊎◌, List, [], ◌∷◌, ◌++◌, length, take}
 use Rattle.ciborium_ll_grammar.specs.declared.spelling.Spelling.{Spelling}
+use Rattle.ciborium_ll_grammar.specs.declared.spelling.Spelling.TheVariants.{Any}
 use Rattle.ciborium_ll_grammar.specs.Faults.{Short}
 use Rattle.cbor_copier.specs.Reading.{AreSpelled, ComesTo}
 use Rattle.cbor_checker.specs.declared.progress.Progress.TheVariants as f
@@ -14,12 +15,12 @@ use Rattle.cbor_item_copier.specs.declared.progress.End.TheVariants as e
 
 -- The bytes are some number of elements, and the output is their shortest spelling, as `18 01` and `01`.
 abbrev pub IsSpelled : List ℕ → List ℕ → Type 0
-IsSpelled bytes output = (count : ℕ) × AreSpelled count bytes output
+IsSpelled bytes output = (count : ℕ) × AreSpelled Any count bytes output
 
 -- A copy of more elements than there are bytes has put out this output, and the bytes end too early: `82 61` for
 -- `82 61`.
 abbrev pub IsCutCopy : List ℕ → List ℕ → Type 0
-IsCutCopy bytes output = (count : ℕ) → length bytes < count → ComesTo count bytes Short output
+IsCutCopy bytes output = (count : ℕ) → length bytes < count → ComesTo Any count bytes Short output
 
 -- A copy of elements has put out this output for all bytes except the last byte: `82` for `82 ff`.
 pub record IsCutBefore (bytes output : List ℕ) : Type 0 where

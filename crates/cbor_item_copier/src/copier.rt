@@ -77,9 +77,9 @@ fn copy(copier: &mut Copier, bytes: &[u8], out: &mut [u8]) -> usize
     ensures kept { drop result out.new ≡ drop result out.old }
     ensures full { (pending_of copier.new ≡ []) ⊎ (result ≡ length out.old) }
     ensures grown { result + kept_len copier.new ≤ kept_len copier.old + length bytes.now }
-    ensures copied { (fed given : List ℕ) → (NoneGoOn most (fed ++ bytes.now) → ⊥) → AreBytes bytes.now
-        → length fed + length bytes.now ≤ most → HasCopied most fed given copier.old
-        → HasCopied most (fed ++ bytes.now) (given ++ take result out.new) copier.new }
+    ensures copied { (fed given : List ℕ) → (NoneGoOn Any most (fed ++ bytes.now) → ⊥) → AreBytes bytes.now
+        → length fed + length bytes.now ≤ most → HasCopied Any most fed given copier.old
+        → HasCopied Any most (fed ++ bytes.now) (given ++ take result out.new) copier.new }
 {
     copier.feed(bytes, out).written
 }
@@ -327,7 +327,6 @@ impl ItemCopier {
         ensures keeps { (allowed : Spelling) (depth : ℕ) (read written : List ℕ)
             → HasItemCopied allowed depth read written self.now → Keeps allowed depth read written snapshot.new }
         ensures saves { Saves self.now snapshot.new }
-        ensures spare { snapshot.new.copier.spare ≡ 0 }
     {
         self.checker.save(&mut snapshot.checker);
         snapshot.copier = self.copier.save();

@@ -1,7 +1,9 @@
 // The calls of a copier, each once for each of its answers, by bytes and numbers from outside.
 
 use crate::told::{Told, in_front, is_told, nothing, told};
-use capi::{CllAnswer, CllCopier, cll_copier_end, cll_copier_feed, cll_copier_init};
+use capi::{
+    CllAnswer, CllCopier, cll_copier_end, cll_copier_feed, cll_copier_init, cll_copier_init_strict,
+};
 use cbor_copier::Copier;
 use std::process::Abort;
 
@@ -118,6 +120,23 @@ fn copiers(rt: HostRuntime) {
     for row in &ROWS {
         fed_row(&rt, row);
     }
+}
+
+// Returns whether a strict copier of two elements, of which one came, answers so to some bytes.
+fn is_strict_at(bytes: &[u8], answer: CllAnswer, numbers: [u64; 3]) -> bool {
+    let mut copier = no_copier();
+    let _ = cll_copier_init_strict(&mut copier, 2);
+    let _ = fed_once(&mut copier, &[0x05], 16);
+    is_told(&fed_once(&mut copier, bytes, 16).0, answer, numbers)
+}
+
+// A strict copier takes the shortest titles alone, and no open within a string.
+#[test]
+fn strict_copiers(rt: HostRuntime) {
+    assert!(rt; is_strict_at(&[0x18, 0x18, 0x07], CllAnswer::Ok, [2, 2, 0]));
+    assert!(rt; is_strict_at(&[0x18, 0x17], CllAnswer::Syntax, [2, 0, 1]));
+    assert!(rt; is_strict_at(&[0x1a, 0x00, 0x00, 0x01], CllAnswer::Syntax, [3, 0, 1]));
+    assert!(rt; is_strict_at(&[0x5f, 0x5f], CllAnswer::Syntax, [2, 1, 2]));
 }
 
 // Memory that never held a copier, or holds none any more.

@@ -37,13 +37,13 @@ use Rattle.tool_files.proofs.RecodePlaces.{place_read}
 
 -- The states before the first byte of an item, and the output.
 fresh_spots : (depth : ℕ) (copier : ItemCopier) → item.HasCopied Any depth [] [] copier
-    → (item_spot copier ≡ checks.start Any depth) × (elements_spot copier ≡ copies.start most)
+    → (item_spot copier ≡ checks.start Any depth) × (elements_spot copier ≡ copies.start Any most)
     × (pending copier ≡ [])
 unfolding item.HasCopied
 fresh_spots depth copier was =
     one_fed Any depth [] (pending copier) [] (item_spot copier) (checks.start Any depth) (elements_spot copier)
-    (copies.start most) was
-    (fresh_fed Any depth (checks.start Any depth) (copies.start most) [] checks.fresh copies.fresh)
+    (copies.start Any most) was
+    (fresh_fed Any depth (checks.start Any depth) (copies.start Any most) [] checks.fresh copies.fresh)
 
 fresh_due : (depth : ℕ) (bytes : List ℕ) (spot : Spot) → bytes ≡ [] → spot ≡ checks.start Any depth
     → r.More 1 ≡ progress_of bytes spot

@@ -6,6 +6,7 @@ use Rattle.std.specs.Io.KnownBytes.{Appends, Consumes, IsAtEnd, Keeps}
 use Rattle.ciborium_ll_io.specs.Transfer.{AppendsPart}
 use Rattle.std.proofs.lemmas.List.{take-append-drop, length-take}
 use Rattle.std.proofs.Math.Seq.{take-length, drop-length}
+use Rattle.ciborium_ll_grammar.specs.declared.spelling.Spelling.TheVariants.{Any}
 use Rattle.cbor_copier.specs.declared.copier.Copier.{Copier}
 use Rattle.cbor_copier.specs.declared.progress.Progress.{Progress}
 use Rattle.cbor_copier.specs.declared.progress.Progress.TheVariants as p
@@ -25,8 +26,8 @@ only_more says (inl is) some = is
 only_more says (inr is) some = absurd (some (rw is tt))
 
 -- An answer other than `Room` is told of all output.
-pub whole_told : (count : ℕ) (bytes output : List ℕ) (says : Progress) → Tells count bytes output says
-    → (IsRoom says → ⊥) → TellsWhole count bytes output says
+pub whole_told : (count : ℕ) (bytes output : List ℕ) (says : Progress) → Tells Any count bytes output says
+    → (IsRoom says → ⊥) → TellsWhole Any count bytes output says
 whole_told count bytes output p.More told some = told
 whole_told count bytes output p.Room told some = absurd (some tt)
 whole_told count bytes output p.Ended told some = told
@@ -55,14 +56,14 @@ module _ {R W : Type 0} (left : R → Option (List ℕ)) (got : W → Option (Li
     pub fed : List ℕ
     pub given : List ℕ
     pub rest : List ℕ
-    pub copied : HasCopied count fed given copier
+    pub copied : HasCopied Any count fed given copier
     pub split : due ≡ fed ++ piece ++ rest
     pub tells : left reader ≡ Some rest
     pub all : got writer ≡ Some (written ++ given)
     pub many : pieces ≤ length fed + length piece
-    pub told : 0 < pieces → TellsWhole count fed given p.More
+    pub told : 0 < pieces → TellsWhole Any count fed given p.More
 
-  pub held_first : (copier : Copier) (reader : R) (writer : W) → HasCopied count [] [] copier
+  pub held_first : (copier : Copier) (reader : R) (writer : W) → HasCopied Any count [] [] copier
       → left reader ≡ Some due → got writer ≡ Some written → Held [] copier 0 reader writer
   held_first copier reader writer copied tells all = record {
     fed = [];
@@ -78,7 +79,7 @@ module _ {R W : Type 0} (left : R → Option (List ℕ)) (got : W → Option (Li
 
   module _ {piece : List ℕ} {copier : Copier} {pieces : ℕ} {reader : R} {writer : W}
       (held : Held piece copier pieces reader writer) (taken : ℕ) (says : Progress) (output : List ℕ)
-      (told : TellsWhole count (held.fed ++ take taken piece) (held.given ++ output) says) where
+      (told : TellsWhole Any count (held.fed ++ take taken piece) (held.given ++ output) says) where
     parted : due ≡ (held.fed ++ take taken piece) ++ drop taken piece ++ held.rest
     parted =
         held.split ∙ ap (λ (xs : List ℕ). held.fed ++ xs ++ held.rest) (sym (take-append-drop taken piece))
@@ -138,9 +139,9 @@ module _ {R W : Type 0} (left : R → Option (List ℕ)) (got : W → Option (Li
   -- A whole piece was taken, and the next one came.
   pub held_next : {piece : List ℕ} {copier : Copier} {pieces : ℕ} {reader : R} {writer : W}
       (held : Held piece copier pieces reader writer) (output bytes : List ℕ) (copier' : Copier) (reader' : R)
-      (writer' : W) → HasCopied count (held.fed ++ piece) (held.given ++ output) copier'
+      (writer' : W) → HasCopied Any count (held.fed ++ piece) (held.given ++ output) copier'
       → TellsAll got (written ++ held.given) output writer' → Consumes (left reader) (left reader') bytes
-      → 0 < length bytes → TellsWhole count (held.fed ++ piece) (held.given ++ output) p.More
+      → 0 < length bytes → TellsWhole Any count (held.fed ++ piece) (held.given ++ output) p.More
       → Held bytes copier' (pieces + 1) reader' writer'
   held_next {piece = piece} held output bytes copier' reader' writer' copied all consumes some told =
       let known = consumed_known _ _ bytes held.rest consumes held.tells in record {

@@ -7,6 +7,7 @@ use Rattle.ciborium_ll_decoder.specs.Decoding.{offset_limit}
 use Rattle.ciborium_ll_streams.specs.declared.streams.ReadFault.{ReadFault}
 use Rattle.ciborium_ll_streams.specs.declared.streams.ReadFault.TheVariants as f
 use Rattle.ciborium_ll_streams.specs.declared.streams.WriteFault.{WriteFault}
+use Rattle.ciborium_ll_grammar.specs.declared.spelling.Spelling.TheVariants.{Any}
 use Rattle.cbor_copier.specs.declared.progress.Progress.{Progress}
 use Rattle.cbor_copier.specs.declared.progress.Progress.TheVariants as p
 use Rattle.cbor_copier.specs.Reading.{TellsWhole}
@@ -36,7 +37,7 @@ pub record Stands {R : Type 0} (left : R → Option (List ℕ)) (most count : �
   pub split : due ≡ fed ++ ahead ++ rest
   pub few : length ahead ≤ most
   pub tells : left reader ≡ Some rest
-  pub told : TellsWhole count fed output says
+  pub told : TellsWhole Any count fed output says
 
 module _ {R W : Type 0} (left : R → Option (List ℕ)) (got : W → Option (List ℕ)) (most : ℕ) where
   -- The copy came so far, and all output is written: `01`, if the first of two elements of `01 02` came.

@@ -69,7 +69,13 @@ fn goes_on(progress: Progress, taken: usize, len: usize) -> bool {
 pub fn copied(count: usize, bytes: &[u8], cut: usize, room: usize) -> Answer
     requires { cut ≤ length bytes.now }
 {
-    let mut copier = Copier::new(count);
+    copied_by(Copier::new(count), bytes, cut, room)
+}
+
+// Does what `copied` does, by this copier.
+pub fn copied_by(mut copier: Copier, bytes: &[u8], cut: usize, room: usize) -> Answer
+    requires { cut ≤ length bytes.now }
+{
     let mut out = [0; MOST];
     let mut taken: usize = 0;
     let mut written: usize = 0;

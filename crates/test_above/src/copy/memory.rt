@@ -47,7 +47,7 @@ fn damage(memory: &mut Snapshot, field: u32, number: u64) {
         9 => memory.phase = byte,
         10 => memory.text = byte,
         11 => memory.strings = byte,
-        _ => memory.spare = byte,
+        _ => memory.strict = byte,
     }
 }
 

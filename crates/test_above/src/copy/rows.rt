@@ -1,4 +1,4 @@
-use crate::copy::answers::{Answer, copied, fed, holds};
+use crate::copy::answers::{Answer, copied, copied_by, fed, holds};
 use crate::shared::{self, all_hold};
 use cbor_copier::{Copied, Copier, Progress};
 use std::mem::size_of;
@@ -66,6 +66,24 @@ static ROWS: [Written; 20] = [
     (1, b"\x63\xed\xa0", b"\x63", Progress::Syntax(0)),
 ];
 
+// The same of a strict copier. Other titles are faults (RFC 7049, 3.9), a longer one as soon as its number is too small
+// for each title that begins so.
+static STRICT_ROWS: [Written; 8] = [
+    (2, b"\x05\x18\x18\x1c", b"\x05\x18\x18", Progress::Ended),
+    (
+        1,
+        b"\xfa\x00\x00\x00\x00",
+        b"\xfa\x00\x00\x00\x00",
+        Progress::Ended,
+    ),
+    (1, b"\x5f\x41\x01\xff", b"\x5f\x41\x01\xff", Progress::Ended),
+    (1, b"\x18\x17", b"", Progress::Syntax(0)),
+    (2, b"\x05\x19\x00", b"\x05", Progress::Syntax(1)),
+    (1, b"\x3b\x00\x00\x00\x00", b"", Progress::Syntax(0)),
+    (1, b"\xf8\x1f", b"", Progress::Syntax(0)),
+    (1, b"\x5f\x41\x00\x5f", b"\x5f\x41\x00", Progress::Syntax(3)),
+];
+
 // Returns whether a copy wrote this, and has come this far.
 fn is_row(answer: &Answer, out: &[u8], progress: Progress) -> bool {
     let is_written = answer.written == out.len() && answer.out.starts_with(out);
@@ -84,6 +102,21 @@ fn row(rt: &impl Abort, count: usize, bytes: &[u8], out: &[u8], progress: Progre
 fn each_row(rt: HostRuntime) {
     for &(count, bytes, out, progress) in &ROWS {
         row(&rt, count, bytes, out, progress);
+    }
+}
+
+// Copies bytes by a strict copier as `row` does.
+fn strict_row(rt: &impl Abort, count: usize, bytes: &[u8], out: &[u8], progress: Progress) {
+    for cut in 0..=bytes.len() {
+        let answer = copied_by(Copier::strict(count), bytes, cut, 1);
+        holds(rt, is_row(&answer, out, progress), count, bytes, cut, 1);
+    }
+}
+
+#[test]
+fn each_strict_row(rt: HostRuntime) {
+    for &(count, bytes, out, progress) in &STRICT_ROWS {
+        strict_row(&rt, count, bytes, out, progress);
     }
 }
 

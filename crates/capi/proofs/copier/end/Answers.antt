@@ -2,11 +2,11 @@ use Rattle.capi.proofs.PieceLaws.{ends}
 use Rattle.capi.proofs.copier.end.Goals as goal
 
 pub returns-clause-ended : goal.returns-clause-ended
-returns-clause-ended c = λ count read written kept.
-    let was = c.in-Some.ensures.kept count read written kept in
+returns-clause-ended c = λ allowed count read written kept.
+    let was = c.in-Some.ensures.kept allowed count read written kept in
     let told = c.end.ensures in
-    ends count read written c.end.result c.told_end-told.result.1 c.told_end-told.result.0 c.say-2.new.self
-    c.in-Some.restored was told.is (told.tells count read written was) (told.exactly count read written was)
+    ends allowed count read written c.end.result c.told_end-told.result.1 c.told_end-told.result.0 c.say-2.new.self
+    c.in-Some.restored was told.is (told.tells allowed count read written was) (told.exactly allowed count read written was)
     c.told_end-told.ensures.answer c.told_end-told.ensures.place c.say-2.ensures
 
 pub returns-clause-argument : goal.returns-clause-argument

@@ -2,6 +2,7 @@ use Rattle.std.proofs.Common.{rules, ◌≡◌, ◌++◌, ◌∙◌, ◌≤◌, 
 use Rattle.ciborium_ll_decoder.specs.declared.copy.RecodeError.TheVariants as r
 use Rattle.ciborium_ll_decoder.proofs.BodyCopyLaws.{write_refused}
 use Rattle.ciborium_ll_decoder.proofs.DecodingLaws.{exit_is}
+use Rattle.ciborium_ll_grammar.specs.declared.spelling.Spelling.TheVariants.{Any}
 use Rattle.cbor_copier.specs.declared.progress.Progress.TheVariants as p
 use Rattle.cbor_copier.proofs.ReadLaws.{fresh_clear}
 use Rattle.tool_lines.proofs.PromptLaws.{breaks, comes, held_first, held_long, held_next}
@@ -15,7 +16,7 @@ pieces-init g c = record {
   whole = search rules;
   room = search rules;
   few = omega arith;
-  none = (fresh_clear c.args.count [] c.new-copier.result c.new-copier.ensures).1;
+  none = (fresh_clear Any c.args.count [] c.new-copier.result c.new-copier.ensures).1;
   held = λ due written tells all. held_first _ _ c.args.count due written c.new-copier.result c.args.reader.now
       c.args.writer.now.sink c.new-copier.ensures tells all;
 }
@@ -35,7 +36,7 @@ returns-in_err-map_err g c = λ due written tells all.
     let fits = c.feed-copied.ensures.fits c.pieces.invariant.none
     (piece_fits c.pieces.given c.pieces.piece c.pieces.out c.pieces.invariant.few c.pieces.invariant.room) in
     let told = whole_told c.args.count _ _ c.feed-copied.result.progress
-    ((c.feed-copied.ensures.read c.args.count held.fed held.given held.copied).1.tells) fits in
+    ((c.feed-copied.ensures.read Any c.args.count held.fed held.given held.copied).1.tells) fits in
     rw (rw failed.2 at (exit_is _ _ c.from_residual.ensures.1))
     (breaks _ _ c.args.count due written held c.feed-copied.result.taken c.feed-copied.result.progress output told
     8192 c.send.new.writer.sink (piece_len c.pieces.given 8192 c.pieces.piece c.pieces.invariant.few)
@@ -45,7 +46,7 @@ pub returns-in-Ended : goal.returns-in-Ended
 returns-in-Ended g c = λ due written tells all.
     let held = c.pieces.invariant.held due written tells all in
     let output = take c.feed-copied.result.written c.feed-copied.new.out in
-    let told = rw c.in-Ended.is at ((c.feed-copied.ensures.read c.args.count held.fed held.given held.copied).1.tells) in
+    let told = rw c.in-Ended.is at ((c.feed-copied.ensures.read Any c.args.count held.fed held.given held.copied).1.tells) in
     let sent : c.send.result ≡ Ok (tt {0}) = search rules in
     (comes _ _ c.args.count due written held c.feed-copied.result.taken p.Ended output told 8192 c.pieces.reader
     c.send.new.writer.sink (piece_len c.pieces.given 8192 c.pieces.piece c.pieces.invariant.few) held.tells
@@ -55,7 +56,7 @@ pub returns-in-Syntax : goal.returns-in-Syntax
 returns-in-Syntax g c = λ due written tells all.
     let held = c.pieces.invariant.held due written tells all in
     let output = take c.feed-copied.result.written c.feed-copied.new.out in
-    let told = rw c.in-Syntax.is at ((c.feed-copied.ensures.read c.args.count held.fed held.given held.copied).1.tells) in
+    let told = rw c.in-Syntax.is at ((c.feed-copied.ensures.read Any c.args.count held.fed held.given held.copied).1.tells) in
     let sent : c.send.result ≡ Ok (tt {0}) = search rules in
     (comes _ _ c.args.count due written held c.feed-copied.result.taken (p.Syntax c.in-Syntax.place) output told 8192
     c.pieces.reader c.send.new.writer.sink (piece_len c.pieces.given 8192 c.pieces.piece c.pieces.invariant.few)
@@ -71,7 +72,7 @@ returns-in_err-given g c = λ due written tells all.
     let fits = c.feed-copied.ensures.fits c.pieces.invariant.none
     (piece_fits c.pieces.given c.pieces.piece c.pieces.out c.pieces.invariant.few c.pieces.invariant.room) in
     let is = only_more c.feed-copied.result.progress c.in-More.is fits in
-    let told = rw is at ((c.feed-copied.ensures.read c.args.count held.fed held.given held.copied).1.tells) in
+    let told = rw is at ((c.feed-copied.ensures.read Any c.args.count held.fed held.given held.copied).1.tells) in
     let whole : taken ≡ length piece = c.feed-copied.ensures.all (rw is tt) in
     let sent : c.send.result ≡ Ok (tt {0}) = search rules in
     let keeps = rw failed.1 at c.read_piece.ensures.keeps in
@@ -102,8 +103,8 @@ pieces-preserved g c =
           let held = c.pieces.invariant.held due written tells all in
           let whole : take c.feed-copied.result.taken piece ≡ piece =
           ap (λ (n : ℕ). take n piece) (c.feed-copied.ensures.all (rw is tt)) ∙ take-length piece in
-          let told = rw is at ((c.feed-copied.ensures.read c.args.count held.fed held.given held.copied).1.tells) in
-          let copied = (c.feed-copied.ensures.read c.args.count held.fed held.given held.copied).0 in
+          let told = rw is at ((c.feed-copied.ensures.read Any c.args.count held.fed held.given held.copied).1.tells) in
+          let copied = (c.feed-copied.ensures.read Any c.args.count held.fed held.given held.copied).0 in
           let sent : c.send.result ≡ Ok (tt {0}) = search rules in
           held_next _ _ c.args.count due written held output (take c.in_ok-given.given c.read_piece.new.piece)
           c.feed-copied.new.self c.read_piece.new.reader c.send.new.writer.sink (rw whole at copied)
@@ -126,7 +127,7 @@ pub returns-in-TooLong : goal.returns-in-TooLong
 returns-in-TooLong g c = λ due written tells all.
     let held = c.pieces.invariant.held due written tells all in
     let output = take c.feed-copied.result.written c.feed-copied.new.out in
-    let told = rw c.in-TooLong.is at ((c.feed-copied.ensures.read c.args.count held.fed held.given held.copied).1.tells) in
+    let told = rw c.in-TooLong.is at ((c.feed-copied.ensures.read Any c.args.count held.fed held.given held.copied).1.tells) in
     let sent : c.send.result ≡ Ok (tt {0}) = search rules in
     let come = comes _ _ c.args.count due written held c.feed-copied.result.taken p.TooLong output told 8192
     c.pieces.reader c.send.new.writer.sink (piece_len c.pieces.given 8192 c.pieces.piece c.pieces.invariant.few)

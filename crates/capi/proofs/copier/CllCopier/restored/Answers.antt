@@ -7,5 +7,5 @@ returns-then-self-eq-MARK-clause-some c =
     is_copier c.args.self.now c.restore.result (search rules) c.restore.ensures.some
 
 pub returns-then-self-eq-MARK-clause-kept : goal.returns-then-self-eq-MARK-clause-kept
-returns-then-self-eq-MARK-clause-kept c = λ count read written kept.
-    c.restore.ensures.kept count read written kept.state
+returns-then-self-eq-MARK-clause-kept c = λ allowed count read written kept.
+    c.restore.ensures.kept allowed count read written kept.state

@@ -43,7 +43,8 @@ returns-in-Some-title-clause-copied c = λ allowed count fed given is.
     title_given allowed count n (take n bytes) c.in-Some-title.header (spot_of c.args.self.now)
     (spot_of c.title_put.new.self) fed given (take c.args.at c.args.out.now) _ _
     (below_take n bytes fits (λ i less. search rules)) (search rules) (length-take-le n bytes fits) (search rules)
-    (search rules) (search rules) (search rules) (search rules) c.requires.given c.title_put.ensures c.give.ensures.given is
+    (search rules) (search rules) (search rules) (search rules) c.requires.given c.title_put.ensures
+    c.give.ensures.given is
 
 pub returns-in-Some-title-clause-grown : goal.returns-in-Some-title-clause-grown
 returns-in-Some-title-clause-grown c =

@@ -22,8 +22,10 @@ pieces-preserved c =
       kept = went.rest ∙ drop_later c.pieces.written c.advance-len.result.1 c.pieces.out c.args.out.now went.within.0
           c.pieces.invariant.kept;
       copied = λ allowed count fed given is.
-          fed_behind allowed count fed _ bytes c.pieces.at c.advance-len.result.0 (putting [] (spot_of c.advance-len.new.self))
-          (went.copied allowed count (fed ++ take c.pieces.at bytes) given (c.pieces.invariant.copied allowed count fed given is));
+          fed_behind allowed count fed _ bytes c.pieces.at c.advance-len.result.0
+          (putting [] (spot_of c.advance-len.new.self))
+          (went.copied allowed count (fed ++ take c.pieces.at bytes) given (c.pieces.invariant.copied allowed count fed
+          given is));
       full = search rules;
       grown = omega (arith, c.pieces.invariant.grown, went.grown, ap length none);
       stays = λ off given.
@@ -34,7 +36,8 @@ pieces-preserved c =
 
 pub returns-in_default-clause-tells : goal.returns-in_default-clause-tells
 returns-in_default-clause-tells c = λ allowed count fed given is.
-    copier_tells c.pieces.self c.progress.result c.progress.ensures allowed count (fed ++ take c.pieces.at c.args.bytes.now)
+    copier_tells c.pieces.self c.progress.result c.progress.ensures allowed count
+    (fed ++ take c.pieces.at c.args.bytes.now)
     (given ++ take c.pieces.written c.pieces.out) (c.pieces.invariant.copied allowed count fed given is)
 
 pub returns-then-self-clause-tells : goal.returns-then-self-clause-tells

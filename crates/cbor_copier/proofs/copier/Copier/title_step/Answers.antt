@@ -30,4 +30,5 @@ returns-in-Some c =
 pub returns-in-None : goal.returns-in-None
 returns-in-None c =
     let spot = with_byte c.args.byte (spot_of c.args.self.now) in
-    step_none spot (spot_of c.refuse-in-None.new.self) (none_begins spot.allowed spot.front (search rules)) (search rules)
+    step_none spot (spot_of c.refuse-in-None.new.self) (none_begins spot.allowed spot.front (search rules))
+    (search rules)

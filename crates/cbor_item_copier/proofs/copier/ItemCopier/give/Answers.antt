@@ -1,4 +1,5 @@
 use Rattle.std.proofs.Common.{length, take}
+use Rattle.ciborium_ll_grammar.specs.declared.spelling.Spelling.TheVariants.{Any}
 use Rattle.cbor_item_copier.specs.Copying.{most}
 use Rattle.cbor_item_copier.proofs.StepLaws.{given_or_full, only_written}
 use Rattle.cbor_item_copier.proofs.copier.ItemCopier.give.Goals as goal
@@ -11,4 +12,4 @@ returns-clause-full c =
 pub returns-clause-copied : goal.returns-clause-copied
 returns-clause-copied c = λ allowed depth fed given was.
     only_written given (take c.feed.result.written c.feed.new.out) c.feed.result.taken c.args.self.now.copier
-    c.feed.new.self (λ read is. (c.feed.ensures.read most read given is).0) allowed depth fed _ was
+    c.feed.new.self (λ read is. (c.feed.ensures.read Any most read given is).0) allowed depth fed _ was
