@@ -1,5 +1,5 @@
 -- The event of a title.
-use Rattle.std.specs.Prelude.{ℕ}
+use Rattle.std.specs.Prelude.{ℕ, List, []}
 use Rattle.ciborium_ll_grammar.specs.declared.hdr.Header.{Header}
 use Rattle.ciborium_ll_grammar.specs.declared.hdr.Header.TheVariants as h
 use Rattle.cbor_parser.specs.declared.event.Event.{Event}
@@ -18,3 +18,9 @@ within_event header offset = e.Header header offset
 abbrev pub title_event : Within → Header → ℕ → Event
 title_event w.Nothing header offset = e.Header header offset
 title_event (w.Open kind more) header offset = within_event header offset
+
+-- The bytes that an event carries from earlier pieces: `c3` for the text `c3 a4` whose second byte alone is in the piece,
+-- and none for a header.
+abbrev pub carried_bytes : Event → List ℕ
+carried_bytes (e.Text carried left) = carried
+carried_bytes event = []

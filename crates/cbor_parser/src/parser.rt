@@ -41,6 +41,7 @@ pub struct Parser {
 impl Parser {
     ghost use Rattle.std.specs.Prelude.{◌<◌, ◌+◌, ◌-◌, ◌%◌, ◌++◌, ◌⊎◌, Bool, ℕ, List, [], IfSome, IfNone, IsSomeAnd};
     ghost use Rattle.std.specs.Prelude.{slice_index, take, false};
+    ghost use Rattle.cbor_parser.specs.Events.{carried_bytes};
     ghost use Rattle.cbor_parser.specs.Parsing.{AreTokens, AtFault, AtTitle, Token, due_of, point_of};
     ghost use Rattle.cbor_parser.specs.Pushing.{Enters, HasPushed, Pushes, Stops, text_point};
     ghost use Rattle.cbor_parser.specs.Saving.{Holds, Keeps};
@@ -48,6 +49,7 @@ impl Parser {
     ghost use Rattle.cbor_parser.specs.declared.phase.Phase.TheVariants as p;
     ghost use Rattle.cbor_parser.specs.declared.strings.Within.TheVariants as w;
     ghost use Rattle.ciborium_ll_grammar.specs.Title.{affix_len};
+    ghost use Rattle.ciborium_ll_grammar.specs.declared.limits.TheConstants.{MOST_KEPT};
 
     /// Makes a parser that takes any spelling, to which no byte was pushed.
     pub fn new() -> Parser
@@ -132,6 +134,7 @@ impl Parser {
     pub fn push(&mut self, bytes: &[u8]) -> Pushed
         ensures taken { result.taken ≤ length bytes.now }
         ensures some { 0 < length bytes.now → (0 < result.taken) ⊎ Stops result.event }
+        ensures few { length (carried_bytes result.event) ≤ MOST_KEPT }
         ensures pushed { (allowed : Spelling) (before : List ℕ) (tokens : List Token)
             → HasPushed allowed before tokens self.old → Pushes allowed before tokens bytes.now result self.new }
         ensures stays { (place : ℕ) → point_of self.old ≡ AtFault place
@@ -220,6 +223,7 @@ impl Parser {
         requires room { self.old.offset + length bytes.now ≤ usize.MAX }
         ensures taken { result.taken ≤ length bytes.now }
         ensures some { 0 < result.taken }
+        ensures few { length (carried_bytes result.event) ≤ MOST_KEPT }
         ensures pushed { (allowed : Spelling) (before : List ℕ) (tokens : List Token)
             → HasPushed allowed before tokens self.old → Pushes allowed before tokens bytes.now result self.new }
     {
@@ -300,6 +304,7 @@ impl Parser {
         requires room { self.old.offset + length bytes.now ≤ usize.MAX }
         ensures taken { result.taken ≤ length bytes.now }
         ensures some { 0 < result.taken }
+        ensures few { length (carried_bytes result.event) ≤ MOST_KEPT }
         ensures pushed { (allowed : Spelling) (before : List ℕ) (tokens : List Token)
             → HasPushed allowed before tokens self.old → Pushes allowed before tokens bytes.now result self.new }
     {
@@ -320,6 +325,7 @@ impl Parser {
         requires room { self.old.offset + length bytes.now ≤ usize.MAX }
         ensures taken { result.taken ≤ length bytes.now }
         ensures some { 0 < result.taken }
+        ensures few { length (carried_bytes result.event) ≤ MOST_KEPT }
         ensures pushed { (allowed : Spelling) (before : List ℕ) (tokens : List Token)
             → HasPushed allowed before tokens self.old → Pushes allowed before tokens bytes.now result self.new }
     {
@@ -364,6 +370,7 @@ impl Parser {
         requires room { self.old.offset + length bytes.now ≤ usize.MAX }
         ensures taken { result.taken ≤ length bytes.now }
         ensures some { 0 < result.taken }
+        ensures few { length (carried_bytes result.event) ≤ MOST_KEPT }
         ensures pushed { (allowed : Spelling) (before : List ℕ) (tokens : List Token)
             → HasPushed allowed before tokens self.old → Pushes allowed before tokens bytes.now result self.new }
     {
