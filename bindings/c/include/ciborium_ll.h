@@ -16,8 +16,8 @@
  * call writes must not overlap anything else that the caller gives it, so no call works in place. cll_overlap tells
  * whether two pieces of memory overlap.
  *
- * Threads. Only a cll_checker, a cll_copier and a cll_item_copier keep anything between calls, in the caller's own
- * memory. So calls may run in several threads at once, if no call writes what another call uses.
+ * Threads. Only a cll_checker, a cll_parser, a cll_copier and a cll_item_copier keep anything between calls, in the
+ * caller's own memory. So calls may run in several threads at once, if no call writes what another call uses.
  *
  * REPORTS. Each call that has a report fills in all six numbers of it. A number that has no meaning for a call is 0.
  * With CLL_ARGUMENT all six are 0.
@@ -33,7 +33,7 @@
  * of cll_checker_feed and cll_item_copier_feed it is the length of the item, in all pieces together. Otherwise it is 0.
  *
  * The offset of a fault is counted from the start of `data`. A checker and a copier of an item count it from the item's
- * first byte, through all pieces. A copier of elements counts it from the elements' first byte, through all pieces. It
+ * first byte, through all pieces. A copier of elements and a parser count it from the first byte of all pieces. It
  * is the offset of a title, and with CLL_KEY_ORDER and CLL_DUPLICATE_KEY that of a key. For cll_utf8 it is the length
  * of the front. There is one exception, for the body of a text that is not UTF-8, in a string that no open begins. Its
  * place is the end of the string's title less the length of the shortest title. So the place lies inside a title that
@@ -44,7 +44,8 @@
  * what the caller asked for has at least that many bytes. For cll_headers it completes the title and the body that come
  * next. So a reader may ask for that many bytes, and none of them follows the item or the elements. Then give
  * cll_recode, cll_strict and cll_skip all bytes again, cll_headers those from `consumed` on, and a feed the new bytes.
- * With CLL_SHORT of the other calls `place` is 0, and promises nothing.
+ * A parser says with CLL_SHORT how many bytes of the title or of the body under way are due. With CLL_SHORT of the
+ * other calls `place` is 0, and promises nothing.
  *
  * If a title was cut, its rest is due. If a body was cut, its rest is due. If a body is about to begin, all of its
  * bytes are due: 65,536 after `5a 00 01 00 00`, and 65,535 after `5a 00 01 00 00 61`. If a title is about to begin, 1
@@ -56,14 +57,14 @@
  * `data` after the last of them. `spelled` is how many of the bytes that cll_recode wrote are the spelling of these
  * elements. So a copy goes on from `data + whole` to `out + spelled`. With cll_strict `spelled` is 0.
  *
- * STATES. A cll_checker, a cll_copier and a cll_item_copier are states. A state lies in the caller's own memory,
- * aligned as a uint64_t. What it contains is the library's. It holds no pointer, and nothing has to be released. A copy
- * of its bytes is a second state, and from then on the two go on by themselves.
+ * STATES. A cll_checker, a cll_parser, a cll_copier and a cll_item_copier are states. A state lies in the caller's own
+ * memory, aligned as a uint64_t. What it contains is the library's. It holds no pointer, and nothing has to be
+ * released. A copy of its bytes is a second state, and from then on the two go on by themselves.
  *
  * cll_checker_init, cll_item_copier_init and their strict forms do not write most of a state: 2,304 bytes of a
  * cll_checker and of a cll_item_copier stay as they were. So they may hold what stood in the memory before. Clear the
  * memory before the call, if you store or send the state. cll_copier_init and cll_copier_init_strict write all 72 bytes
- * of a cll_copier.
+ * of a cll_copier. The calls of a parser write all 56 bytes of a cll_parser except the last three.
  *
  * A state is plain numbers, in the byte order of the machine. So another process may go on with a copy of its bytes,
  * and so may another machine that runs the same library. Both need the same version of the library: a state does not
@@ -86,12 +87,12 @@
  * indefinite form, and take the same time for any item. The others read each byte of the items that they pass.
  *
  * STACK. These numbers were measured on x86-64, and are not proved. cll_pull, cll_push, cll_push_wide, cll_utf8,
- * cll_checker_init, cll_checker_init_strict, cll_checker_end, cll_copier_init, cll_copier_init_strict, cll_item_header,
- * cll_item_bytes, cll_item_text and cll_item_items take less than 128 bytes. cll_checker_feed, cll_copier_feed, cll_copier_end and
- * cll_item_copier_end take less than 1 KiB. cll_recode and cll_strict take less than 2 KiB, and less than 4.5 KiB if
- * the bytes end too early. cll_item_copier_init and cll_item_copier_init_strict take less than 3 KiB.
- * cll_item_copier_feed takes less than 4 KiB. cll_headers takes less than 256 bytes if it answers CLL_OK, and otherwise
- * less than 4.5 KiB.
+ * cll_checker_init, cll_checker_init_strict, cll_checker_end, cll_parser_init, cll_parser_init_strict, cll_copier_init,
+ * cll_copier_init_strict, cll_item_header, cll_item_bytes, cll_item_text and cll_item_items take less than 128 bytes.
+ * cll_checker_feed, cll_parser_push, cll_parser_end, cll_copier_feed, cll_copier_end and cll_item_copier_end take less
+ * than 1 KiB. cll_recode and cll_strict take less than 2 KiB, and less than 4.5 KiB if the bytes end too early.
+ * cll_item_copier_init and cll_item_copier_init_strict take less than 3 KiB. cll_item_copier_feed takes less than 4
+ * KiB. cll_headers takes less than 256 bytes if it answers CLL_OK, and otherwise less than 4.5 KiB.
  *
  * cll_skip and cll_item_parse take less than 4 KiB if the bytes begin with an item. Otherwise they take less than 4
  * KiB, or less than 2 KiB and 328 bytes for each level that they go down, whichever is more: 8 KiB at 16 levels, 23 KiB
@@ -181,6 +182,26 @@ typedef struct { uint64_t consumed, written, place, elements, whole, spelled; } 
 typedef struct { uint64_t words[296]; } cll_checker;
 
 /*
+ * A parser of titles and bodies whose bytes come in pieces. The section STATES at the top of this header says what
+ * holds for its memory.
+ */
+typedef struct { uint64_t words[7]; } cll_parser;
+
+/*
+ * What a parser found in the bytes that it took. `kind` is one of the numbers of cll_event_kind, and the comments there
+ * say what the other fields mean. A field that has no meaning for a kind is 0.
+ *
+ * `consumed` is how many bytes of `data` were taken. `place` is an offset in all bytes so far, from the first byte of
+ * all pieces. `header` is the meaning of a title. `left` is how many bytes a body still lacks. The bytes of a part of a
+ * text are the first `carried_len` of `carried`, which earlier pieces had, and then those taken.
+ */
+typedef struct {
+    uint64_t consumed, place, left;
+    cll_header header;
+    uint8_t kind, carried_len, carried[3];
+} cll_event;
+
+/*
  * A copier of elements. Their bytes come in pieces, and the caller takes their shortest spelling in pieces. The section
  * STATES at the top of this header says what holds for its memory.
  */
@@ -224,6 +245,15 @@ typedef enum cll_answer {
     /* This comes from the calls that look into a cll_item alone. */
     CLL_ABSENT /* there is none: no item is left, no pair has this key, or the item is of another kind */
 } cll_answer;
+
+/* What a parser found. */
+typedef enum cll_event_kind {
+    CLL_EVENT_NONE,   /* no event. `place` is as the answer says: how many bytes are due, or the offset of a fault */
+    CLL_EVENT_HEADER, /* a title ended, which begins at `place` and means `header` */
+    CLL_EVENT_CLOSE,  /* a break at `place` ended the innermost string of indefinite length */
+    CLL_EVENT_BYTES,  /* the bytes taken are the next part of the body of a byte string, which lacks `left` bytes */
+    CLL_EVENT_TEXT    /* the bytes carried and taken are the next part of a text, whole characters. `left` as above */
+} cll_event_kind;
 
 /* The order of the keys of a map, by their encodings. */
 typedef enum cll_order {
@@ -620,6 +650,67 @@ CLL_NODISCARD cll_answer cll_checker_feed(cll_checker *checker, const uint8_t *d
  * `consumed` is 0. `place` is 0 with CLL_OK, so it is not the length of the item.
  */
 CLL_NODISCARD cll_answer cll_checker_end(const cll_checker *checker, cll_report *report);
+
+/*
+ * Sets a parser up to which no byte came, whatever stood in `parser` before. It finds titles and bodies in any number
+ * of items, one after the other. It does not count the items in arrays and maps, so a break may stand at any place
+ * outside of a string. For an answer on how items nest, give the same bytes to a checker.
+ *
+ * Returns:
+ *
+ * CLL_OK: the parser is set up.
+ */
+cll_answer cll_parser_init(cll_parser *parser);
+
+/*
+ * Sets a parser up as cll_parser_init does, for the shortest spelling, as cll_strict takes it. A later push then
+ * answers CLL_SYNTAX also for a title that is not the shortest, for a simple value below 32 in two bytes, and for a
+ * string of indefinite length inside another one.
+ *
+ * Returns:
+ *
+ * CLL_OK: the parser is set up.
+ */
+cll_answer cll_parser_init_strict(cll_parser *parser);
+
+/*
+ * Gives a parser the next bytes, as many as there are, and says in `event` what comes first in them. `event->consumed`
+ * is how many bytes of `data` it took. Push the rest again, until no byte is left or a fault comes.
+ *
+ * Of `82 42 05`, three calls take `82`, `42` and `05`. They answer CLL_OK with the header of an array, the header of a
+ * byte string, and a part of its body that lacks 1 byte. Of `19 01`, one call takes both bytes and answers CLL_SHORT.
+ *
+ * Returns:
+ *
+ * CLL_OK: an event came. `event->kind` says which one.
+ * CLL_SHORT: no event ends here. All of `data` was taken, and `event->place` is how many bytes are due.
+ * CLL_SYNTAX: at `event->place` no title begins, or none that may stand in its string, or a text is not UTF-8.
+ * CLL_TOO_LONG: more than 2^64 - 1 bytes would have come, and no byte of `data` was taken.
+ * CLL_ARGUMENT: no parser was set up there, or none stands there any more: nothing was taken, and nothing changed.
+ *
+ * The titles, the bodies and the faults do not depend on how the caller cuts the bytes into pieces. A body that a piece
+ * cuts has one part for each piece, or more. A body without bytes has no part. A fault comes with the byte that makes
+ * it, and that byte is taken. After a fault a further call takes nothing, and answers the same.
+ *
+ * With CLL_SHORT exactly `event->place` bytes end the title or the body that is under way: 1 if a title is about to
+ * begin. A call with no bytes tells that number, and changes nothing. A call with bytes takes at least one of them,
+ * unless it answers CLL_SYNTAX, CLL_TOO_LONG or CLL_ARGUMENT.
+ */
+CLL_NODISCARD cll_answer cll_parser_push(cll_parser *parser, const uint8_t *data, size_t len, cll_event *event);
+
+/*
+ * Says what it means that no more bytes come, and leaves the parser as it is.
+ *
+ * Returns:
+ *
+ * CLL_OK: no title, no body and no string of indefinite length is under way. An array or a map may go on.
+ * CLL_SHORT: one is, and `place` is how many bytes of the title or of the body are due: 1 if a title is about to begin.
+ * CLL_SYNTAX: as cll_parser_push answered, with the same `place`.
+ * CLL_ARGUMENT: no parser was set up there, or none stands there any more.
+ *
+ * `consumed` is 0.
+ */
+CLL_NODISCARD cll_answer cll_parser_end(const cll_parser *parser, cll_report *report);
 
 /*
  * Sets a copier up for `count` elements to which no byte came, whatever stood in `copier` before. A copier of no

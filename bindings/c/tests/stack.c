@@ -29,6 +29,8 @@ static cll_span spans[ROOM];
 static cll_report report;
 static size_t consumed;
 static cll_checker checker;
+static cll_parser parser;
+static cll_event event;
 static cll_copier copier;
 static cll_item_copier item_copier;
 static cll_item item, value;
@@ -57,6 +59,32 @@ static void checker_init(void) { answer = cll_checker_init(&checker, DEEPEST); }
 static void checker_init_strict(void) { answer = cll_checker_init_strict(&checker, DEEPEST); }
 static void checker_feed(void) { answer = cll_checker_feed(&checker, data, len, &report); }
 static void checker_end(void) { answer = cll_checker_end(&checker, &report); }
+
+static void parser_init(void) { answer = cll_parser_init(&parser); }
+static void parser_init_strict(void) { answer = cll_parser_init_strict(&parser); }
+/* Pushes all bytes, which have no fault. */
+static void parser_push(void)
+{
+    size_t taken = 0;
+    do {
+        answer = cll_parser_push(&parser, data + taken, len - taken, &event);
+        taken += (size_t)event.consumed;
+    } while (answer == CLL_OK && taken < len);
+    answer = answer == CLL_SHORT ? CLL_OK : answer;
+}
+static void parser_end(void)
+{
+    const uint32_t got = cll_parser_end(&parser, &report);
+    answer = got == CLL_SHORT ? CLL_OK : got;
+}
+static void parser_fault(void)
+{
+    static const uint8_t damaged[] = {0x62, 0xc3, 0x28};
+    const int is_told = cll_parser_init(&parser) == CLL_OK && cll_parser_push(&parser, damaged, 1, &event) == CLL_OK
+        && cll_parser_push(&parser, damaged + 1, 2, &event) == CLL_SYNTAX
+        && cll_parser_end(&parser, &report) == CLL_SYNTAX;
+    answer = is_told ? CLL_OK : CLL_ARGUMENT;
+}
 
 static void copier_init(void) { answer = cll_copier_init(&copier, 1); }
 static void copier_init_strict(void) { answer = cll_copier_init_strict(&copier, 1); }
@@ -269,6 +297,7 @@ static void use_short(size_t plain)
         {"cll_checker_feed/short", checker_short}, {"cll_checker_end", checker_cut},
         {"cll_copier_feed/short", copier_short}, {"cll_copier_end/short", copier_cut}, {"cll_headers/short", list_short},
         {"cll_item_copier_feed/short", item_copier_short}, {"cll_item_copier_end/short", item_copier_cut},
+        {"cll_parser_push/short", parser_push}, {"cll_parser_end/short", parser_end},
     };
     static const struct { uint8_t bytes[6]; size_t len; } rows[] = {
         {{0}, 0},                               /* before a title */
@@ -292,6 +321,7 @@ static void use_short(size_t plain)
         checker_init();
         answer = cll_copier_init(&copier, UINT64_MAX);
         item_copier_init();
+        parser_init();
         for (size_t j = 0; j < sizeof calls / sizeof *calls; j++)
             printf("%s %zu\n", calls[j].name, used(calls[j].call) - plain);
     }
@@ -315,6 +345,8 @@ int main(void)
         {"cll_utf8/damage", no_utf8}, {"cll_headers/short", list_cut}, {"cll_headers/damage", list_fault},
         {"cll_checker_init", checker_init}, {"cll_checker_feed", checker_feed}, {"cll_checker_end", checker_end},
         {"cll_checker_init_strict", checker_init_strict}, {"cll_checker_feed/strict", checker_feed},
+        {"cll_parser_init", parser_init}, {"cll_parser_push", parser_push}, {"cll_parser_end", parser_end},
+        {"cll_parser_init_strict", parser_init_strict}, {"cll_parser_push/fault", parser_fault},
         {"cll_copier_init", copier_init}, {"cll_copier_feed", copier_feed}, {"cll_copier_end", copier_end},
         {"cll_copier_init_strict", copier_init_strict}, {"cll_copier_feed/strict", copier_feed},
         {"cll_item_copier_init", item_copier_init}, {"cll_item_copier_feed", item_copier_feed},

@@ -251,6 +251,10 @@ class _Checker(ctypes.Structure):
     _fields_ = [("words", ctypes.c_uint64 * 296)]
 
 
+class _Parser(ctypes.Structure):
+    _fields_ = [("words", ctypes.c_uint64 * 7)]
+
+
 class _Copier(ctypes.Structure):
     _fields_ = [("words", ctypes.c_uint64 * 9)]
 

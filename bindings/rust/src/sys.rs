@@ -103,6 +103,34 @@ pub struct cll_checker {
     pub words: [u64; 296],
 }
 
+/// A parser of titles and bodies whose bytes come in pieces. Its contents are the library's, and zeros are no parser.
+#[repr(C)]
+#[derive(Clone, Copy, Debug)]
+pub struct cll_parser {
+    /// Its memory.
+    pub words: [u64; 7],
+}
+
+/// What a parser found in the bytes that it took.
+#[repr(C)]
+#[derive(Clone, Copy, Debug, Default)]
+pub struct cll_event {
+    /// How many bytes were taken.
+    pub consumed: u64,
+    /// The offset of a title or of a fault, or how many bytes are due.
+    pub place: u64,
+    /// How many bytes a body still lacks.
+    pub left: u64,
+    /// The meaning of a title.
+    pub header: cll_header,
+    /// The kind of the event, from 0 to 4.
+    pub kind: u8,
+    /// How many bytes of a text earlier pieces had.
+    pub carried_len: u8,
+    /// These bytes.
+    pub carried: [u8; 3],
+}
+
 /// A copier of elements whose bytes come in pieces. Its contents are the library's, and zeros are no copier.
 #[repr(C)]
 #[derive(Clone, Copy, Debug)]
@@ -211,6 +239,15 @@ extern "C" {
         report: *mut cll_report,
     ) -> u32;
     pub fn cll_checker_end(checker: *const cll_checker, report: *mut cll_report) -> u32;
+    pub fn cll_parser_init(parser: *mut cll_parser) -> u32;
+    pub fn cll_parser_init_strict(parser: *mut cll_parser) -> u32;
+    pub fn cll_parser_push(
+        parser: *mut cll_parser,
+        data: *const u8,
+        len: usize,
+        event: *mut cll_event,
+    ) -> u32;
+    pub fn cll_parser_end(parser: *const cll_parser, report: *mut cll_report) -> u32;
     pub fn cll_copier_init(copier: *mut cll_copier, count: u64) -> u32;
     pub fn cll_copier_init_strict(copier: *mut cll_copier, count: u64) -> u32;
     pub fn cll_copier_feed(

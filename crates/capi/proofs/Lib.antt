@@ -8,6 +8,7 @@ pub mod ElementShapes
 pub mod ItemDue
 pub mod ItemPieceLaws
 pub mod FrontParts
+pub mod ParserLaws
 pub mod PieceLaws
 pub mod PullLaws
 pub mod RunCopies

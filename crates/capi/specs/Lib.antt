@@ -8,6 +8,7 @@ pub mod Fronts
 pub mod Headers
 pub mod ItemPieces
 pub mod Lacking
+pub mod Parsing
 pub mod Pieces
 pub mod Pulling
 pub mod Pushing

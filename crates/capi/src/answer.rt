@@ -71,8 +71,8 @@ pub struct CllReport {
     /// A number that depends on the answer, and 0 otherwise:
     ///
     /// - `Syntax`, `BreakDue`, `TooDeep`, `NotShortest`, `Indefinite`, `KeyOrder`, `DuplicateKey`: the fault's offset.
-    /// - `Short` of `cll_headers`, `cll_recode`, `cll_strict`, `cll_skip`, a checker or a copier of an item: how many
-    ///   bytes are due.
+    /// - `Short` of `cll_headers`, `cll_recode`, `cll_strict`, `cll_skip`, a checker, a parser or a copier of an item:
+    ///   how many bytes are due.
     /// - `Ok` of `cll_checker_feed` or `cll_item_copier_feed`: the item's length.
     pub place: u64,
     /// How many elements `cll_recode` or `cll_strict` did whole, and 0 otherwise.

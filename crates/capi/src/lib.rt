@@ -55,6 +55,7 @@ mod item;
 mod item_copier;
 mod items;
 mod keys;
+mod parser;
 mod tally;
 mod titles;
 mod wide;
@@ -70,6 +71,9 @@ pub use self::header::CllHeader;
 pub use self::item::{CllBody, CllItem};
 pub use self::item_copier::CllItemCopier;
 pub use self::items::CllItems;
+pub use self::parser::{
+    CllEvent, CllParser, cll_parser_end, cll_parser_init, cll_parser_init_strict, cll_parser_push,
+};
 use self::tally::{Tally, copy_counted};
 pub use self::titles::CllTitle;
 use self::wide::title_in;

@@ -53,9 +53,12 @@ ghost use Rattle.capi.specs.Viewing.{Finds, GivesBody, IsInteger, ListsItems, St
 ghost use Rattle.capi.specs.Widths.{PushesWide};
 ghost use Rattle.ciborium_ll.specs.Limits.{MOST_LEVELS};
 
+mod parser;
+
+pub use self::parser::{cll_parser_end, cll_parser_init, cll_parser_init_strict, cll_parser_push};
 pub use capi::{
-    CllAnswer, CllBody, CllChecker, CllCopier, CllHeader, CllItem, CllItemCopier, CllItems,
-    CllReport, CllTitle, Span,
+    CllAnswer, CllBody, CllChecker, CllCopier, CllEvent, CllHeader, CllItem, CllItemCopier,
+    CllItems, CllParser, CllReport, CllTitle, Span,
 };
 
 /// Returns the version, which is 0.1.0: 65536 times its major number, 256 times its minor one, and its patch number.

@@ -15,6 +15,8 @@ mod deterministic;
 #[cfg(test)]
 mod item_copiers;
 #[cfg(test)]
+mod parsers;
+#[cfg(test)]
 mod runs;
 #[cfg(test)]
 mod titles;
