@@ -6,6 +6,7 @@ ghost use Rattle.ciborium_ll_grammar.specs.Title.{shortest_title};
 ghost use Rattle.ciborium_ll_grammar.specs.Strings.{Bytes, Text};
 ghost use Rattle.ciborium_ll_text.specs.Text.{IsTail};
 ghost use Rattle.ciborium_ll_grammar.specs.Values.{value_limit};
+ghost use Rattle.ciborium_ll_grammar.specs.declared.limits.TheConstants.{LEAST_BUFFER, MOST_KEPT};
 ghost use Rattle.ciborium_ll_encoder.specs.Encoding.{WritesBytes, WritesPieces, WritesString, WritesValue, WritesFewest, writer_of};
 
 use crate::enc::Encoder;
@@ -73,9 +74,9 @@ impl<W: Write> Encoder<W> {
 
     /// Writes a text that is longer than the limit.
     fn long_text(&mut self, value: &str, limit: usize) -> Result<(), W::Error>
-        requires four { 4 ≤ limit }
+        requires four { LEAST_BUFFER ≤ limit }
         requires longer { limit < length value.now }
-        ensures value { (segment : Option ℕ) → limit ≡ max 4 (unwrap_or segment (length value.now))
+        ensures value { (segment : Option ℕ) → limit ≡ max LEAST_BUFFER (unwrap_or segment (length value.now))
             → WritesValue W.Write Text segment value.now (writer_of self.old) result (writer_of self.new) }
         ensures target { W.target (writer_of self.new) ≡ W.target (writer_of self.old) }
     {
@@ -112,7 +113,7 @@ impl<W: Write> Encoder<W> {
 
     /// Writes the pieces of a text that is longer than the limit.
     fn text_pieces(&mut self, value: &str, limit: usize) -> Result<(), W::Error>
-        requires four { 4 ≤ limit }
+        requires four { LEAST_BUFFER ≤ limit }
         requires longer { limit < length value.now }
         ensures pieces { WritesPieces W.Write Text limit value.now (writer_of self.old) result (writer_of self.new) }
         ensures target { W.target (writer_of self.new) ≡ W.target (writer_of self.old) }
@@ -132,12 +133,12 @@ impl<W: Write> Encoder<W> {
 /// The piece ends at the limit, or before a character that lies across the limit. The search steps over at most three
 /// bytes, because a character has at most three later bytes.
 fn piece_len(text: &str, limit: usize) -> usize
-    requires four { 4 ≤ limit }
+    requires four { LEAST_BUFFER ≤ limit }
     requires longer { limit < length text.now }
     ensures boundary { IsCharBoundary text.now result }
     ensures within { result ≤ limit }
     ensures some { 0 < result }
-    ensures back { limit ≤ result + 3 }
+    ensures back { limit ≤ result + MOST_KEPT }
     ensures longest { (other : ℕ) → result < other → other ≤ limit → ¬ (IsCharBoundary text.now other) }
 {
     let bytes = text.as_bytes();
