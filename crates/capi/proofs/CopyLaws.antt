@@ -15,7 +15,7 @@ use Rattle.ciborium_ll.specs.Elements.{Mark, spelling}
 use Rattle.ciborium_ll.specs.Faults.{Point, Due, In, BodyDue, Syntax}
 use Rattle.ciborium_ll.specs.Decoding.{IsFreshAs, IsSteady, offset_limit}
 use Rattle.ciborium_ll.specs.Recoding.{CopiesElements, StopsWriting}
-use Rattle.ciborium_ll.specs.RecodingTold.{IsReady, IsTold, RecodesTold, StopsAt, StopsShort}
+use Rattle.ciborium_ll.specs.RecodingTold.{HasRoom, IsReady, IsTold, RecodesTold, StopsAt, StopsShort}
 use Rattle.ciborium_ll.specs.Sides.{Sides, sides}
 use Rattle.ciborium_ll.specs.Slices.{slice_before, slice_target}
 use Rattle.ciborium_ll.specs.Transfer.{Target}
@@ -24,12 +24,13 @@ use Rattle.capi.specs.declared.answer.CllAnswer.TheVariants as a
 use Rattle.capi.specs.declared.answer.CllReport.{CllReport}
 use Rattle.capi.specs.Answers.{ReportsCopy}
 use Rattle.capi.specs.Checking.{Checks}
-use Rattle.capi.specs.Copying.{CopiesInto, CopiesAnyhow, HasRoom, StandAtStart, StopsForRoom, buffer_size}
+use Rattle.capi.specs.Copying.{CopiesInto, CopiesAnyhow, StandAtStart, StopsForRoom, buffer_size}
 use Rattle.capi.specs.Copying.{copy_answer, copy_place}
 use Rattle.ciborium_ll.proofs.CopyingTold.{shrinks_told}
+use Rattle.ciborium_ll_decoder.proofs.PremiseLaws.{fresh_can_read}
 use Rattle.ciborium_ll_recode.proofs.RecodeAnyhowLaws.{recode_anyhow, unwritten}
 use Rattle.ciborium_ll_recode.proofs.RecodeReadyLaws.{short_told}
-use Rattle.capi.proofs.PullLaws.{due_ahead, still_steady}
+use Rattle.capi.proofs.PullLaws.{due_ahead}
 
 -- A reader or a writer tells only one list of bytes.
 pub same_bytes : (known : Option (List ℕ)) (one other : List ℕ) → known ≡ Some one → known ≡ Some other → one ≡ other
@@ -83,13 +84,9 @@ module _ {R E W F : Type 0} (source : Reader R E) (sink : Writer W F) where
       → IsReady source sink allowed count size (sides decoder writer) due []
   ready_to_copy allowed count size room reader decoder writer due fresh steady ahead output space enough title chunk =
       record {
-        steady = still_steady source allowed reader decoder fresh steady;
-        told = told_to_copy allowed reader decoder writer due fresh ahead output;
-        room = room;
-        room-told = space;
-        enough = enough;
-        fits-title = omega (arith, fresh.offset, title);
-        fits-chunk = omega (arith, fresh.offset, chunk);
+        mode = fresh.mode;
+        can_read = fresh_can_read source size reader decoder due fresh steady ahead title chunk;
+        can_write = record { told = output; room = room; room-told = space; enough = enough };
       }
 
   copy_reported :

@@ -13,12 +13,12 @@ use Rattle.ciborium_ll.specs.Elements.{spelling}
 use Rattle.ciborium_ll.specs.Faults.{BeginsWithElements}
 use Rattle.ciborium_ll.specs.Decoding.{IsSteady}
 use Rattle.ciborium_ll.specs.Recoding.{CopiesElements, CopiesRun, StopsCopy}
-use Rattle.ciborium_ll.specs.RecodingTold.{IsReady, IsTold}
+use Rattle.ciborium_ll.specs.RecodingTold.{HasRoom, IsReady, IsTold}
 use Rattle.ciborium_ll.specs.Sides.{Sides, sides}
 use Rattle.capi.specs.declared.answer.CllAnswer.{CllAnswer}
 use Rattle.capi.specs.declared.answer.CllReport.{CllReport}
 use Rattle.capi.specs.Answers.{ReportsElements}
-use Rattle.capi.specs.Copying.{HasRoom, StandAtStart, buffer_size, copy_answer}
+use Rattle.capi.specs.Copying.{StandAtStart, buffer_size, copy_answer}
 use Rattle.capi.specs.Counting.{CountsTo, CountsElements, CountsStrictTo, CountsStrictly, CountsCopy}
 use Rattle.ciborium_ll_grammar.specs.declared.spelling.Spelling.{Spelling}
 use Rattle.ciborium_ll_grammar.specs.declared.spelling.Spelling.TheVariants.{Any, Shortest}

@@ -1,36 +1,24 @@
 -- The result of a skip by a fresh decoder, as a fact of the bytes ahead.
-use Rattle.std.proofs.Common.{◌≡◌, ℕ, ◌+◌, ◌<◌, ◌∙◌, ◌↔◌, IsTrue, IsOk, List, length, Result, Ok, Err}
-use Rattle.std.proofs.Common.{Some, ap, sym, subst, refl, arith}
+use Rattle.std.proofs.Common.{◌≡◌, ℕ, ◌∙◌, ◌↔◌, IsOk, List, Result, Ok, Err}
+use Rattle.std.proofs.Common.{ap, sym, subst, refl, arith}
 use Rattle.ciborium_ll_grammar.specs.declared.spelling.Spelling.{Spelling}
 use Rattle.ciborium_ll_grammar.specs.declared.spelling.Spelling.TheVariants.{Any}
 use Rattle.ciborium_ll.specs.Types.Read.{Ghosts}
 use Rattle.ciborium_ll.specs.Types.Decoder.{Decoder}
 use Rattle.ciborium_ll.specs.Types.Error.TheVariants as e
 use Rattle.ciborium_ll.specs.Faults.{Syntax}
-use Rattle.ciborium_ll.specs.Decoding.{IsFresh, offset_limit, spelling_of}
+use Rattle.ciborium_ll.specs.Decoding.{spelling_of}
 use Rattle.cbor_skip.specs.declared.SkipError.{SkipError}
 use Rattle.cbor_skip.specs.declared.SkipError.TheVariants as s
 use Rattle.cbor_skip.specs.ItemFaults.{BeginsWithItem}
-use Rattle.cbor_skip.specs.SkippingTold.{IsReadyToSkip, SkipsTold}
+use Rattle.cbor_skip.specs.SkippingTold.{SkipsTold}
 use Rattle.capi.specs.declared.answer.CllAnswer.{CllAnswer}
 use Rattle.capi.specs.declared.answer.CllAnswer.TheVariants as a
 use Rattle.capi.specs.declared.answer.CllReport.{CllReport}
 use Rattle.capi.specs.Answers.{Reports}
 use Rattle.capi.specs.Skipping.{Skips, skip_answer, skip_place}
-use Rattle.capi.proofs.PullLaws.{due_ahead, still_steady}
 
 module _ {R E : Type 0} (source : Ghosts R E) where
-  pub ready_to_skip : (room : ℕ) (reader : R) (decoder : Decoder R) (due : List ℕ) → IsFresh reader 0 decoder
-      → IsTrue (source.steady reader) → source.ahead reader ≡ Some due
-      → length due + 8 < offset_limit → length due + room < offset_limit → IsReadyToSkip source room decoder due
-  ready_to_skip room reader decoder due fresh steady ahead title chunk = record {
-    none_waits = λ on. fresh.none_waits;
-    steady = still_steady source Any reader decoder fresh steady;
-    told = due_ahead source Any reader decoder fresh due ahead;
-    fits-title = omega (arith, fresh.offset, title);
-    fits-chunk = omega (arith, fresh.offset, chunk);
-  }
-
   pub skip_reported : (depth : ℕ) (due : List ℕ) (old new : Decoder R) (result : Result (Unit {0}) (SkipError E))
       (report : CllReport) → SkipsTold source Any depth due old result new → old.offset ≡ 0
       → Reports report new.offset 0 (skip_place result) → Skips depth due (skip_answer result) report

@@ -1,5 +1,5 @@
 -- The result of `cll_recode`.
-use Rattle.std.specs.Prelude.{◌≡◌, ℕ, ◌+◌, ◌<◌, ◌≤◌, ◌⊎◌, List, ◌++◌, drop, length, Result, Ok, Err}
+use Rattle.std.specs.Prelude.{◌≡◌, ℕ, ◌+◌, ◌<◌, ◌≤◌, List, ◌++◌, drop, length, Result, Ok, Err}
 use Rattle.ciborium_ll_grammar.specs.declared.spelling.Spelling.TheVariants.{Any}
 use Rattle.ciborium_ll.specs.Types.Error.TheVariants as e
 use Rattle.ciborium_ll.specs.Types.RecodeError.{RecodeError}
@@ -11,12 +11,6 @@ use Rattle.capi.specs.declared.answer.CllAnswer.{CllAnswer}
 use Rattle.capi.specs.declared.answer.CllAnswer.TheVariants as a
 use Rattle.capi.specs.declared.answer.CllReport.{CllReport}
 use Rattle.capi.specs.Answers.{ReportsCopy}
-
--- The room is enough for the spelling, if the bytes begin with the elements, or for as many bytes as there are. For one
--- element in `18 17 19` it is 1 or more.
-abbrev pub HasRoom : ℕ → List ℕ → ℕ → Type 0
-HasRoom count bytes room =
-    ((front : BeginsWithElements Any count bytes) × (length (spelling front.marks) ≤ room)) ⊎ (length bytes ≤ room)
 
 -- The output begins with the bytes, and after them it is as it was. With `17` the output `00 00` becomes `17 00`.
 abbrev pub StandAtStart : List ℕ → List ℕ → List ℕ → Type 0

@@ -1,7 +1,7 @@
 -- Laws of the rewriting, and of its refusals.
 use Rattle.std.proofs.Common.{◌≡◌, ℕ, ◌+◌, ◌-◌, ◌<◌, ◌≤◌, List, [], ◌∷◌, ◌++◌, length, length-append, refl, sym, ◌∙◌}
 use Rattle.std.proofs.Common.{ap, ap₂, subst, arith, append-nil, append_assoc, take, drop, take-append-drop, false}
-use Rattle.std.proofs.Common.{IsTrue, Some, Result, Ok, Err, MatchResult}
+use Rattle.std.proofs.Common.{Result, Ok, Err, MatchResult}
 use Rattle.cbor_skip.specs.Due.{ItemDue}
 use Rattle.cbor_deterministic.specs.declared.TheConstants.{MAX_DEPTH}
 use Rattle.cbor_canonical.specs.Meeting.{IsSameKey}
@@ -12,13 +12,12 @@ use Rattle.ciborium_ll_grammar.specs.declared.spelling.Spelling.TheVariants.{Any
 use Rattle.ciborium_ll_grammar.specs.Items.{IsItem}
 use Rattle.ciborium_ll_decoder.specs.declared.dec.Decoder.{Decoder}
 use Rattle.ciborium_ll_decoder.specs.declared.dec.Error.TheVariants as e
-use Rattle.ciborium_ll_decoder.specs.Decoding.{IsFresh, offset_limit, spelling_of}
-use Rattle.ciborium_ll_decoder.proofs.BodyLaws.{view_none}
+use Rattle.ciborium_ll_decoder.specs.Decoding.{spelling_of}
 use Rattle.ciborium_ll_grammar.specs.Faults.{Syntax}
 use Rattle.cbor_skip.specs.declared.SkipError.{SkipError}
 use Rattle.cbor_skip.specs.declared.SkipError.TheVariants as s
 use Rattle.cbor_skip.specs.ItemFaults.{BeginsWithItem}
-use Rattle.cbor_skip.specs.SkippingTold.{IsReadyToSkip, SkipsTold}
+use Rattle.cbor_skip.specs.SkippingTold.{SkipsTold}
 use Rattle.cbor_skip.proofs.DueLaws.{no_item_fault, no_early_break, no_deep_nest}
 use Rattle.cbor_deterministic.specs.declared.Order.{Order}
 use Rattle.cbor_deterministic.specs.Deterministic.{HasDeterministic}
@@ -82,18 +81,6 @@ refused_has_none d place bytes item rest w.DuplicateKey h i g z =
 -- ---- the check that an item is there
 
 module _ {R E : Type 0} (source : Ghosts R E) where
-  pub ready : (room : ℕ) (reader : R) (decoder : Decoder R) (due : List ℕ) → IsFresh reader 0 decoder
-      → IsTrue (source.steady reader) → source.ahead reader ≡ Some due
-      → length due + 8 < offset_limit → length due + room < offset_limit → IsReadyToSkip source room decoder due
-  ready room reader decoder due fresh steady ahead title chunk = record {
-    none_waits = λ on. fresh.none_waits;
-    steady = subst (λ (r : R). IsTrue (source.steady r)) (sym fresh.reader) steady;
-    told = view_none decoder.waiting (source.ahead decoder.reader) fresh.none_waits ∙ ap source.ahead fresh.reader
-        ∙ ahead;
-    fits-title = omega (arith, fresh.offset, title);
-    fits-chunk = omega (arith, fresh.offset, chunk);
-  }
-
   refusal_go : (d offset : ℕ) (bytes : List ℕ) (old new : Decoder R) (skipped : Result (Unit {0}) (SkipError E))
       (result : Result ℕ Refusal) → SkipsTold source Any d bytes old skipped new → old.offset ≡ 0
       → offset ≡ new.offset → IsRefusalOf (length bytes) offset skipped result

@@ -15,7 +15,9 @@ use Rattle.ciborium_ll_decoder.specs.declared.dec.Error.TheVariants as e
 use Rattle.cbor_skip.specs.declared.SkipError.{SkipError}
 use Rattle.cbor_skip.specs.declared.SkipError.TheVariants as k
 use Rattle.cbor_skip.specs.ItemFaults.{BeginsWithItem}
-use Rattle.cbor_skip.specs.SkippingTold.{IsReadyToSkip, SkipsTold}
+use Rattle.ciborium_ll_decoder.specs.Premises.{CanRead}
+use Rattle.ciborium_ll_decoder.proofs.PremiseLaws.{fresh_can_read}
+use Rattle.cbor_skip.specs.SkippingTold.{SkipsTold}
 use Rattle.cbor_checker.specs.declared.phase.Phase.{Phase}
 use Rattle.cbor_checker.specs.declared.phase.Phase.TheVariants as p
 use Rattle.cbor_checker.specs.declared.phase.Fault.{Fault}
@@ -83,14 +85,9 @@ module _ (s : Spelling) (depth : ℕ) (fed more : List ℕ) (fault : Fault) (nam
 pub fresh_ready : {R E : Type 0} (source : Ghosts R E) (room : ℕ) (allowed : Spelling) (reader : R)
     (decoder : Decoder R)
     (due : List ℕ) → IsFreshAs allowed reader 0 decoder → IsTrue (source.steady reader) → source.ahead reader ≡ Some due
-    → 8 ≤ room → length due + room < offset_limit → IsReadyToSkip source room decoder due
-fresh_ready source room allowed reader decoder due fresh steady ahead wide fits = record {
-  none_waits = λ on. fresh.none_waits;
-  steady = rw fresh.reader steady;
-  told = rw (fresh.none_waits, fresh.reader) ahead;
-  fits-title = omega (arith, fresh.offset, fits, wide);
-  fits-chunk = omega (arith, fresh.offset, fits);
-}
+    → 8 ≤ room → length due + room < offset_limit → CanRead source room decoder due
+fresh_ready source room allowed reader decoder due fresh steady ahead wide fits =
+    fresh_can_read source room reader decoder due fresh steady ahead (omega (arith, fits, wide)) fits
 
 module _ {R E : Type 0} (source : Ghosts R E) (old new : Decoder R) where
   pub both_answer : (s : Spelling) (depth taken : ℕ) (bytes : List ℕ) (fault : Fault) (progress : Progress)

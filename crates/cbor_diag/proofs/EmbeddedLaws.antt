@@ -17,7 +17,7 @@ use Rattle.ciborium_ll.proofs.ItemLaws.{one_item}
 use Rattle.ciborium_ll.proofs.TitleLaws.{IsTitle-shortest}
 use Rattle.cbor_skip.specs.declared.SkipError.{SkipError}
 use Rattle.cbor_skip.specs.Skipping.{ReadsItem, SkipsItem, allowed_by}
-use Rattle.cbor_skip.specs.SkippingTold.{IsReadyToSkip}
+use Rattle.ciborium_ll.specs.Premises.{CanRead}
 use Rattle.cbor_skip.proofs.SkippingToldLaws.{skip_exactly}
 use Rattle.cbor_diag.specs.declared.layout.Line.{Line}
 use Rattle.cbor_diag.specs.declared.marks.Mark.{Mark}
@@ -41,7 +41,7 @@ nothing (byte ∷ bytes) none = absurd (omega (arith, none))
 -- ---- the read of an item in memory
 
 module _ {R E : Type 0} (source : Reader R E) (depth : ℕ) (item : List ℕ) (old : Decoder R)
-    (ready : IsReadyToSkip source 64 old item) (mode : spelling_of old ≡ Any) (is_item : IsItem Any depth item) where
+    (ready : CanRead source 64 old item) (mode : spelling_of old ≡ Any) (is_item : IsItem Any depth item) where
   -- The read of an item does not stop.
   pub never_stops : (new : Decoder R) (error : SkipError E) → SkipsItem source depth 64 old (Err error) new → ⊥
   never_stops new error stops =
@@ -138,7 +138,7 @@ module _ {W F : Type 0} (sink : Writer W F) (inside : Inside W F) (place : Place
 module _ {R E W F : Type 0} (source : Reader R E) (sink : Writer W F) (inside : Inside W F) (place : Place) (item : List ℕ)
   where
     -- If the writer fails, the show of the item in memory fails.
-    pub item_fails : (before after : Decoder R) (old new : W) (fault : F) → IsReadyToSkip source 64 before item
+    pub item_fails : (before after : Decoder R) (old new : W) (fault : F) → CanRead source 64 before item
         → ItemStopsAt source sink inside place (sides before old) (d.Write fault) (sides after new)
         → ItemFails source sink inside place item old fault new
     item_fails before after old new fault ready stops =

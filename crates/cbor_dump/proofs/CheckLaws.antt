@@ -17,7 +17,7 @@ use Rattle.cbor_skip.specs.declared.SkipError.{SkipError}
 use Rattle.cbor_skip.specs.declared.SkipError.TheVariants as s
 use Rattle.cbor_skip.specs.Due.{TakesMore, may_close, ItemDue, here, within}
 use Rattle.cbor_skip.specs.Skipping.{StopsDue, StopsItem, allowed_by}
-use Rattle.cbor_skip.specs.SkippingTold.{IsReadyToSkip}
+use Rattle.ciborium_ll.specs.Premises.{CanRead}
 use Rattle.cbor_dump.specs.declared.dump.DumpError.{DumpError}
 use Rattle.cbor_dump.specs.declared.dump.DumpError.TheVariants as d
 use Rattle.cbor_dump.specs.declared.sequence.Sequence.{Sequence}
@@ -322,9 +322,9 @@ module _ {R E : Type 0} (source : Ghosts R E) where
 
   -- ---- the bytes are told
 
-  module _ (depth : ℕ) (old : Decoder R) (due : List ℕ) (ready : IsReadyToSkip source most_bytes old due) where
+  module _ (depth : ℕ) (old : Decoder R) (due : List ℕ) (ready : CanRead source most_bytes old due) where
     -- A reader that is ready for a buffer of 16 bytes is ready for a smaller buffer.
-    ready_for : (room : ℕ) → room ≤ most_bytes → IsReadyToSkip source room old due
+    ready_for : (room : ℕ) → room ≤ most_bytes → CanRead source room old due
     ready_for room held = grind (arith, nat_tests)
 
     pub answers_told : {W : Type 0} (result : Result E (DumpError E W)) (new : Decoder R)

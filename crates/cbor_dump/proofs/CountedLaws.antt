@@ -9,7 +9,7 @@ use Rattle.ciborium_ll.proofs.ItemLaws.{one_item}
 use Rattle.cbor_skip.specs.declared.SkipError.{SkipError}
 use Rattle.cbor_skip.specs.ItemFaults.{BeginsWithItem}
 use Rattle.cbor_skip.specs.Skipping.{ReadsCounted, SkipsItem, SkipsCounted, StopsCounted}
-use Rattle.cbor_skip.specs.SkippingTold.{IsReadyToSkip}
+use Rattle.ciborium_ll.specs.Premises.{CanRead}
 use Rattle.cbor_skip.proofs.ItemSteps.{item_of}
 use Rattle.cbor_skip.proofs.SkippingToldLaws.{skip_exactly}
 use Rattle.ciborium_ll.specs.Decoding.{spelling_of}
@@ -58,7 +58,7 @@ module _ {R E : Type 0} (source : Ghosts R E) where
     stops = fails;
   }
 
-  module _ (depth room : ℕ) (old : Decoder R) (due : List ℕ) (ready : IsReadyToSkip source room old due) where
+  module _ (depth room : ℕ) (old : Decoder R) (due : List ℕ) (ready : CanRead source room old due) where
     all_told : (count : ℕ) (new : Decoder R) → ReadsCounted source count depth old new
         → SkipsAllItems source count depth due old new
     all_told count new counts =

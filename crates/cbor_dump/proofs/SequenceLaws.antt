@@ -19,7 +19,8 @@ use Rattle.cbor_skip.specs.declared.SkipError.TheVariants as s
 use Rattle.cbor_skip.specs.Failures.{CountsItemFailure}
 use Rattle.cbor_skip.specs.ItemFaults.{BeginsWithItem}
 use Rattle.cbor_skip.specs.Skipping.{ReadsItem, SkipsItem, allowed_by}
-use Rattle.cbor_skip.specs.SkippingTold.{IsReadyToSkip, MeetsItemFault, SkipsTold}
+use Rattle.ciborium_ll.specs.Premises.{CanRead}
+use Rattle.cbor_skip.specs.SkippingTold.{MeetsItemFault, SkipsTold}
 use Rattle.cbor_skip.proofs.FailureLaws.{stop_fails}
 use Rattle.cbor_skip.proofs.ItemSteps.{items_item}
 use Rattle.cbor_skip.proofs.SkippingToldLaws.{ready_mode, skip_told, skip_exactly}
@@ -92,12 +93,12 @@ module _ {R E : Type 0} (source : Ghosts R E) where
 
   -- ---- the bytes are told
 
-  module _ (depth room : ℕ) (old : Decoder R) (due : List ℕ) (ready : IsReadyToSkip source room old due) where
+  module _ (depth room : ℕ) (old : Decoder R) (due : List ℕ) (ready : CanRead source room old due) where
     -- After some items the reader is ready for the bytes that follow them.
     pub record Behind (count : ℕ) (between : Decoder R) (reads : ReadsItems source depth count old between) : Type 0 where
       pub ahead : List ℕ
       pub parts : due ≡ reads.bytes ++ ahead
-      pub still_ready : IsReadyToSkip source room between ahead
+      pub still_ready : CanRead source room between ahead
 
     pub behind : (count : ℕ) (between : Decoder R) (reads : ReadsItems source depth count old between)
         → Behind count between reads

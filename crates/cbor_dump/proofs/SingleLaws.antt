@@ -15,7 +15,7 @@ use Rattle.ciborium_ll.proofs.CopyingTold.{consumes_told, next_read_small}
 use Rattle.ciborium_ll.proofs.ItemLaws.{one_item}
 use Rattle.ciborium_ll.proofs.NestLaws.{title_some}
 use Rattle.cbor_skip.specs.Skipping.{ReadsItem, allowed_by}
-use Rattle.cbor_skip.specs.SkippingTold.{IsReadyToSkip}
+use Rattle.ciborium_ll.specs.Premises.{CanRead}
 use Rattle.cbor_skip.proofs.FailureLaws.{pull_fails, stop_fails}
 use Rattle.cbor_skip.proofs.SkippingToldLaws.{ready_mode, skip_told, skip_exactly}
 use Rattle.cbor_dump.specs.declared.sequence.Sequence.{Sequence}
@@ -65,7 +65,7 @@ module _ {R E : Type 0} (source : Ghosts R E) where
   one_failures depth room old new (Err (n.More at next)) finds =
       more_failures old finds.between new at next finds.reads.passed.failures finds.pulls
 
-  module _ (depth room : ℕ) (old : Decoder R) (due : List ℕ) (ready : IsReadyToSkip source room old due) where
+  module _ (depth room : ℕ) (old : Decoder R) (due : List ℕ) (ready : CanRead source room old due) where
     -- If no byte is left, the pull finds the end.
     end_found : (between new : Decoder R) (pulled : Result Header (Error E)) → DecoderPullAnswer source between pulled new
         → view source between ≡ Some [] → spelling_of between ≡ spelling_of old

@@ -3,7 +3,7 @@
 ghost use Rattle.std.specs.Prelude.{◌≡◌, ◌≤◌, ◌↔◌, ℕ, List, length, IsOk};
 ghost use Rattle.ciborium_ll.specs.Decoding.{MovesOn, spelling_of};
 ghost use Rattle.cbor_skip.specs.Skipping.{SkipsCounted};
-ghost use Rattle.cbor_skip.specs.SkippingTold.{IsReadyToSkip};
+ghost use Rattle.ciborium_ll.specs.Premises.{CanRead};
 ghost use Rattle.cbor_dump.specs.Counted.{BeginsWithItems, SkipsItemsTold};
 ghost use Rattle.ciborium_ll_grammar.specs.declared.limits.TheConstants.{LEAST_BUFFER, MOST_LEVELS};
 
@@ -31,9 +31,9 @@ pub fn skip_items<R: Read>(
 ) -> Result<(), SkipError<R::Error>>
     requires shallow { depth ≤ MOST_LEVELS }
     requires room { LEAST_BUFFER ≤ length buffer.old }
-    ensures exactly { (due : List ℕ) → IsReadyToSkip R.Read (length buffer.old) decoder.old due
+    ensures exactly { (due : List ℕ) → CanRead R.Read (length buffer.old) decoder.old due
         → (IsOk result ↔ BeginsWithItems (spelling_of decoder.old) depth count due) }
-    ensures told { (due : List ℕ) → IsReadyToSkip R.Read (length buffer.old) decoder.old due
+    ensures told { (due : List ℕ) → CanRead R.Read (length buffer.old) decoder.old due
         → SkipsItemsTold R.Read count depth due decoder.old result decoder.new }
     ensures skipped { SkipsCounted R.Read count depth (length buffer.old) decoder.old result decoder.new }
     ensures none { count ≡ 0 → decoder.new ≡ decoder.old }

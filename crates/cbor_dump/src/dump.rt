@@ -6,7 +6,7 @@ ghost use Rattle.ciborium_ll.specs.Items.{IsTakenTitle};
 ghost use Rattle.ciborium_ll.specs.Title.{IsTitle, title_len};
 ghost use Rattle.ciborium_ll.specs.Decoding.{offset_of, spelling_of, IsWaiting};
 ghost use Rattle.cbor_skip.specs.Due.{IsNest};
-ghost use Rattle.cbor_skip.specs.SkippingTold.{IsReadyToSkip};
+ghost use Rattle.ciborium_ll.specs.Premises.{CanRead};
 ghost use Rattle.cbor_dump.specs.Checking.{AnswersTold, ReadsAsCheck};
 ghost use Rattle.cbor_dump.specs.Dumps.{AnswersWaiting, AreRowsTaken, Draws, DrawsRefused, EndsTitles, IsAlone};
 ghost use Rattle.cbor_dump.specs.Dumps.{IsRefusal, IsRefused, IsErrorOfItem, LeavesDecoder, LeavesPart, LinesRefused};
@@ -104,12 +104,12 @@ where
     R::Error: Drop,
     requires { depth ≤ MOST_LEVELS }
     ensures exactly { (due : List ℕ) → IsInMode spelling decoder.old
-        → IsReadyToSkip R.Read most_bytes decoder.old due → AreRowsTaken result
+        → CanRead R.Read most_bytes decoder.old due → AreRowsTaken result
         → (IsOk result ↔ IsSequence (spelling_of decoder.old) depth due) }
     ensures refused { IsRefused result → ShowsRefused R.Read depth (offset_of decoder.old) (S.drawn rows.old)
         (S.drawn rows.new) [] decoder.old decoder.new }
     ensures told { (due : List ℕ) → IsInMode spelling decoder.old
-        → IsReadyToSkip R.Read most_bytes decoder.old due → AreRowsTaken result
+        → CanRead R.Read most_bytes decoder.old due → AreRowsTaken result
         → AnswersTold R.Read depth due decoder.old result decoder.new }
     ensures shows { AreRowsTaken result
         → ShowsAll R.Read spelling depth (S.drawn rows.old) (S.drawn rows.new) result decoder.old

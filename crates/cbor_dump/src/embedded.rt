@@ -4,7 +4,7 @@ ghost use Rattle.std.specs.Prelude.{◌≡◌, ◌≤◌, ◌+◌, ◌^◌, ℕ,
 ghost use Rattle.cbor_dump.specs.declared.embedded.TheConstants.{SPARE};
 ghost use Rattle.ciborium_ll.specs.Decoding.{offset_of};
 ghost use Rattle.ciborium_ll.specs.Items.{IsItem};
-ghost use Rattle.cbor_skip.specs.SkippingTold.{IsReadyToSkip};
+ghost use Rattle.ciborium_ll.specs.Premises.{CanRead};
 ghost use Rattle.cbor_dump.specs.Bodies.{DrawsBody, IsShownAs};
 ghost use Rattle.cbor_dump.specs.Dumps.{Lines};
 ghost use Rattle.cbor_dump.specs.Levels.{Meant};
@@ -91,7 +91,7 @@ where
     R::Error: Drop,
     requires shallow { depth ≤ MOST_LEVELS }
     ensures { (due : List ℕ) → IsInMode spelling decoder.old
-        → IsReadyToSkip R.Read most_bytes decoder.old due
+        → CanRead R.Read most_bytes decoder.old due
         → IsItem spelling depth due → OnOk result
         (Lines depth (offset_of decoder.old) (S.drawn rows.old) (S.drawn rows.new) [] due Meant) }
 {

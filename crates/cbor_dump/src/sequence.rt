@@ -3,7 +3,7 @@
 ghost use Rattle.std.specs.Prelude.{◌≡◌, ◌≤◌, ◌↔◌, ℕ, List, length, IsOk, IfOk};
 ghost use Rattle.ciborium_ll.specs.Decoding.{MovesOn, failures_of, spelling_of};
 ghost use Rattle.ciborium_ll.specs.Items.{AreItems};
-ghost use Rattle.cbor_skip.specs.SkippingTold.{IsReadyToSkip};
+ghost use Rattle.ciborium_ll.specs.Premises.{CanRead};
 ghost use Rattle.cbor_dump.specs.Sequences.{ChecksItems, ChecksTold, CountsCheck, EndsSequence, IsSequence};
 ghost use Rattle.ciborium_ll_grammar.specs.declared.limits.TheConstants.{LEAST_BUFFER, MOST_LEVELS};
 
@@ -57,11 +57,11 @@ pub fn check<R: Read>(
 ) -> Result<Sequence<R::Error>, Stopped<R::Error>>
     requires shallow { depth ≤ MOST_LEVELS }
     requires room { LEAST_BUFFER ≤ length buffer.old }
-    ensures exactly { (due : List ℕ) → IsReadyToSkip R.Read (length buffer.old) decoder.old due
+    ensures exactly { (due : List ℕ) → CanRead R.Read (length buffer.old) decoder.old due
         → (IsOk result ↔ IsSequence (spelling_of decoder.old) depth due) }
-    ensures number { (due : List ℕ) (count : ℕ) → IsReadyToSkip R.Read (length buffer.old) decoder.old due
+    ensures number { (due : List ℕ) (count : ℕ) → CanRead R.Read (length buffer.old) decoder.old due
         → AreItems (spelling_of decoder.old) depth count due → IfOk result (λ sequence. sequence.items ≡ count) }
-    ensures told { (due : List ℕ) → IsReadyToSkip R.Read (length buffer.old) decoder.old due
+    ensures told { (due : List ℕ) → CanRead R.Read (length buffer.old) decoder.old due
         → ChecksTold R.Read depth due decoder.old result decoder.new }
     ensures checks { ChecksItems R.Read depth (length buffer.old) decoder.old result decoder.new }
     ensures failures { CountsCheck result (failures_of R.Read decoder.old) (failures_of R.Read decoder.new) }

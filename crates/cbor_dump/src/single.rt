@@ -3,7 +3,7 @@
 ghost use Rattle.std.specs.Prelude.{◌≡◌, ◌≤◌, ◌↔◌, ℕ, List, length, IsOk};
 ghost use Rattle.ciborium_ll.specs.Decoding.{MovesOn, failures_of, spelling_of};
 ghost use Rattle.ciborium_ll.specs.Items.{IsItem};
-ghost use Rattle.cbor_skip.specs.SkippingTold.{IsReadyToSkip};
+ghost use Rattle.ciborium_ll.specs.Premises.{CanRead};
 ghost use Rattle.cbor_dump.specs.Singles.{ChecksOne, ChecksOneTold, CountsOne, EndsOne};
 ghost use Rattle.ciborium_ll_grammar.specs.declared.limits.TheConstants.{LEAST_BUFFER, MOST_LEVELS};
 
@@ -37,9 +37,9 @@ pub fn check_one<R: Read>(
 ) -> Result<Sequence<R::Error>, NotOne<R::Error>>
     requires shallow { depth ≤ MOST_LEVELS }
     requires room { LEAST_BUFFER ≤ length buffer.old }
-    ensures exactly { (due : List ℕ) → IsReadyToSkip R.Read (length buffer.old) decoder.old due
+    ensures exactly { (due : List ℕ) → CanRead R.Read (length buffer.old) decoder.old due
         → (IsOk result ↔ IsItem (spelling_of decoder.old) depth due) }
-    ensures told { (due : List ℕ) → IsReadyToSkip R.Read (length buffer.old) decoder.old due
+    ensures told { (due : List ℕ) → CanRead R.Read (length buffer.old) decoder.old due
         → ChecksOneTold R.Read depth due decoder.old result decoder.new }
     ensures checks { ChecksOne R.Read depth (length buffer.old) decoder.old result decoder.new }
     ensures failures { CountsOne result (failures_of R.Read decoder.old) (failures_of R.Read decoder.new) }

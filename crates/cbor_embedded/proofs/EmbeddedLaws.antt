@@ -1,30 +1,14 @@
 -- Whether bytes are one item, by a skip over them.
 use Rattle.std.proofs.lemmas.Bool.Decides.{nat_tests}
-use Rattle.std.proofs.Common.{◌≡◌, ◌∙◌, ◌↔◌, ℕ, ◌+◌, ◌<◌, IsTrue, List, [], ◌∷◌, ◌++◌, length, Some}
+use Rattle.std.proofs.Common.{◌≡◌, ◌∙◌, ◌↔◌, ℕ, ◌+◌, IsTrue, List, [], ◌∷◌, ◌++◌, length}
 use Rattle.std.proofs.Common.{Err, IsOk, false, nat_eq, ap, sym, subst, refl, arith, append-nil, length-append}
 use Rattle.ciborium_ll_io.specs.declared.io.Read.{Ghosts}
 use Rattle.ciborium_ll_grammar.specs.declared.spelling.Spelling.{Spelling}
 use Rattle.ciborium_ll_grammar.specs.Items.{IsItem}
 use Rattle.ciborium_ll_grammar.proofs.ItemLaws.{one_item}
 use Rattle.ciborium_ll_decoder.specs.declared.dec.Decoder.{Decoder}
-use Rattle.ciborium_ll_decoder.specs.Decoding.{IsFreshAs, offset_limit}
-use Rattle.ciborium_ll_decoder.proofs.BodyLaws.{view_none}
 use Rattle.cbor_skip.specs.ItemFaults.{BeginsWithItem}
-use Rattle.cbor_skip.specs.SkippingTold.{IsReadyToSkip, SkipsFront}
-
-module _ {R E : Type 0} (source : Ghosts R E) where
-  -- A new decoder over all of the bytes is ready to skip.
-  pub ready : (allowed : Spelling) (room : ℕ) (reader : R) (decoder : Decoder R) (due : List ℕ)
-      → IsFreshAs allowed reader 0 decoder → IsTrue (source.steady reader) → source.ahead reader ≡ Some due
-      → length due + 8 < offset_limit → length due + room < offset_limit → IsReadyToSkip source room decoder due
-  ready allowed room reader decoder due fresh steady ahead title chunk = record {
-    none_waits = λ on. fresh.none_waits;
-    steady = subst (λ (r : R). IsTrue (source.steady r)) (sym fresh.reader) steady;
-    told = view_none decoder.waiting (source.ahead decoder.reader) fresh.none_waits ∙ ap source.ahead fresh.reader
-        ∙ ahead;
-    fits-title = omega (arith, fresh.offset, title);
-    fits-chunk = omega (arith, fresh.offset, chunk);
-  }
+use Rattle.cbor_skip.specs.SkippingTold.{SkipsFront}
 
 -- A list of no length is empty.
 nothing : (bytes : List ℕ) → length bytes ≡ 0 → bytes ≡ []

@@ -34,7 +34,8 @@ use Rattle.cbor_skip.specs.declared.SkipError.TheVariants as s
 use Rattle.cbor_skip.specs.Due.{ItemDue, ReachesItem, at_item, at_string, at_body, at_piece}
 use Rattle.cbor_skip.specs.ItemFaults.{BeginsWithItem}
 use Rattle.cbor_skip.specs.Skipping.{SkipsItem, ReadsItem, allowed_by}
-use Rattle.cbor_skip.specs.SkippingTold.{IsReadyToSkip, SkipsFront, MeetsItemFault, SkipsTold}
+use Rattle.ciborium_ll_decoder.specs.Premises.{CanRead}
+use Rattle.cbor_skip.specs.SkippingTold.{SkipsFront, MeetsItemFault, SkipsTold}
 use Rattle.cbor_skip.proofs.DueLaws.{no_item_fault, no_early_break, no_deep_nest}
 use Rattle.cbor_skip.proofs.StrictnessLaws.{behind_taken, inside_when, strict_by, strict_mode, strict_settled}
 
@@ -69,7 +70,7 @@ module _ {R E : Type 0} (source : Ghosts R E) (depth room : ℕ) (old : Decoder 
   ok_told told new (Ok done) reads ok = front_told told new reads
   ok_told told new (Err error) stops ok = absurd cc
 
-  module _ (ready : IsReadyToSkip source room old due) where
+  module _ (ready : CanRead source room old due) where
     -- The statement of `SkipsTold` for an error of the decoder.
     abbrev Told : Error E → Decoder R → Type 0
     Told error new = SkipsTold source (allowed_by old) depth due old (Err (s.Read error)) new

@@ -1,26 +1,16 @@
 -- `skip_item` if the bytes are told and the reader fails only if bytes are missing.
-use Rattle.std.specs.Prelude.{◌≡◌, ℕ, ◌+◌, ◌<◌, List, length, drop, Some, None, Result, Ok, Err}
+use Rattle.std.specs.Prelude.{◌≡◌, ℕ, ◌+◌, List, length, drop, Some, Result, Ok, Err}
 use Rattle.ciborium_ll_io.specs.declared.io.Read.{Ghosts}
 use Rattle.ciborium_ll_decoder.specs.declared.dec.Decoder.{Decoder}
 use Rattle.ciborium_ll_decoder.specs.declared.dec.Error.TheVariants as e
 use Rattle.ciborium_ll_grammar.specs.declared.spelling.Spelling.{Spelling}
-use Rattle.ciborium_ll_grammar.specs.declared.spelling.Spelling.TheVariants.{Shortest}
 use Rattle.ciborium_ll_grammar.specs.Faults.{Answer, Short, Syntax}
-use Rattle.ciborium_ll_decoder.specs.Decoding.{offset_limit, view, IsSteady, spelling_of}
+use Rattle.ciborium_ll_decoder.specs.Decoding.{view}
 use Rattle.cbor_skip.specs.declared.SkipError.{SkipError}
 use Rattle.cbor_skip.specs.declared.SkipError.TheVariants as s
 use Rattle.cbor_skip.specs.ItemFaults.{HasDeepNest, HasEarlyBreak, HasItemFault, BeginsWithItem}
 
 module _ {R E : Type 0} (source : Ghosts R E) where
-  -- The reader gives the bytes that it tells. The offset fits the bytes that are due, with 8 and with the buffer's
-  -- length to spare. No header waits on a strict decoder. With `01` due and a buffer of 64 bytes, the offset 0 fits.
-  pub record IsReadyToSkip (room : ℕ) (decoder : Decoder R) (due : List ℕ) : Type 0 where
-    pub none_waits : spelling_of decoder ≡ Shortest → decoder.waiting ≡ None
-    pub steady : IsSteady source decoder
-    pub told : view source decoder ≡ Some due
-    pub fits-title : decoder.offset + length due + 8 < offset_limit
-    pub fits-chunk : decoder.offset + length due + room < offset_limit
-
   -- The bytes began with an item, and exactly the bytes that follow are left. If `01 07` is due, `07` is left.
   pub record SkipsFront (allowed : Spelling) (depth : ℕ) (due : List ℕ) (old new : Decoder R) : Type 0 where
     pub front : BeginsWithItem allowed depth due

@@ -8,12 +8,13 @@ ghost use Rattle.std.specs.Prelude.{◌≡◌, ◌<◌, ◌≤◌, ◌↔◌, �
 ghost use Rattle.ciborium_ll_grammar.specs.declared.hdr.Header.{Header as AnyHeader};
 ghost use Rattle.ciborium_ll_decoder.specs.declared.dec.Decoder.{Decoder as AnyDecoder};
 ghost use Rattle.ciborium_ll_decoder.specs.Decoding.{MovesOn, offset_of, spelling_of, view};
+ghost use Rattle.ciborium_ll_decoder.specs.Premises.{CanRead};
 ghost use Rattle.cbor_skip.specs.declared.Begun.TheVariants.{Break as BegunBreak, Nest as BegunNest};
 ghost use Rattle.cbor_skip.specs.Due.{IsNest};
 ghost use Rattle.cbor_skip.specs.ItemFaults.{BeginsWithItem};
 ghost use Rattle.cbor_skip.specs.Skipping.{BeginsNest, IsBegun, SkipsCounted, SkipsOne, SkipsWithin, StopsTitle};
 ghost use Rattle.cbor_skip.specs.Skipping.{ReadsItem, StopsItem, allowed_by};
-ghost use Rattle.cbor_skip.specs.SkippingTold.{IsReadyToSkip, SkipsFront, SkipsTold};
+ghost use Rattle.cbor_skip.specs.SkippingTold.{SkipsFront, SkipsTold};
 ghost use Rattle.ciborium_ll_grammar.specs.declared.limits.TheConstants.{LEAST_BUFFER, MOST_LEVELS};
 
 pub mod laws;
@@ -225,11 +226,11 @@ pub fn skip_item<R: Read>(
 ) -> Result<(), SkipError<R::Error>>
     requires shallow { depth ≤ MOST_LEVELS }
     requires room { LEAST_BUFFER ≤ length buffer.old }
-    ensures exactly { (due : List ℕ) → IsReadyToSkip R.Read (length buffer.old) decoder.old due
+    ensures exactly { (due : List ℕ) → CanRead R.Read (length buffer.old) decoder.old due
         → (IsOk result ↔ BeginsWithItem (spelling_of decoder.old) depth due) }
     ensures front { (due : List ℕ) → view R.Read decoder.old ≡ Some due → IsOk result
         → SkipsFront R.Read (allowed_by decoder.old) depth due decoder.old decoder.new }
-    ensures told { (due : List ℕ) → IsReadyToSkip R.Read (length buffer.old) decoder.old due
+    ensures told { (due : List ℕ) → CanRead R.Read (length buffer.old) decoder.old due
         → SkipsTold R.Read (spelling_of decoder.old) depth due decoder.old result decoder.new }
     ensures skipped { SkipsOne R.Read depth (length buffer.old) decoder.old result decoder.new }
 {

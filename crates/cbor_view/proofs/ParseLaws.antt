@@ -1,37 +1,20 @@
 -- The result of a skip over memory, as a fact of the bytes.
-use Rattle.std.proofs.Common.{◌≡◌, ℕ, ◌+◌, ◌<◌, ◌∙◌, IsTrue, List, length, Option, Some, None, Result, Err}
-use Rattle.std.proofs.Common.{ap, sym, subst, refl, arith}
+use Rattle.std.proofs.Common.{◌≡◌, ℕ, ◌∙◌, List, length, Err}
+use Rattle.std.proofs.Common.{ap, sym, subst, arith}
 use Rattle.ciborium_ll_io.specs.declared.io.Read.{Ghosts}
 use Rattle.ciborium_ll_grammar.specs.declared.spelling.Spelling.{Spelling}
 use Rattle.ciborium_ll_grammar.specs.declared.spelling.Spelling.TheVariants.{Any}
-use Rattle.ciborium_ll_grammar.specs.declared.hdr.Header.{Header}
 use Rattle.ciborium_ll_grammar.specs.Faults.{Syntax as IsSyntax}
 use Rattle.ciborium_ll_decoder.specs.declared.dec.Decoder.{Decoder}
 use Rattle.ciborium_ll_decoder.specs.declared.dec.Error.TheVariants as e
-use Rattle.ciborium_ll_decoder.specs.Decoding.{IsFresh, behind_waiting, offset_limit}
 use Rattle.cbor_skip.specs.declared.SkipError.{SkipError}
 use Rattle.cbor_skip.specs.declared.SkipError.TheVariants as s
-use Rattle.cbor_skip.specs.SkippingTold.{IsReadyToSkip, SkipsTold}
+use Rattle.cbor_skip.specs.SkippingTold.{SkipsTold}
 use Rattle.cbor_view.specs.declared.parse.Fault.{Fault}
 use Rattle.cbor_view.specs.declared.parse.Fault.TheVariants.{Short, Syntax, Break, Deep}
 use Rattle.cbor_view.specs.Faults.{HasFault, IsOfBytes, NamesFault}
 
-view_none : (w : Option Header) (ahead : Option (List ℕ)) → w ≡ None → behind_waiting w ahead ≡ ahead
-view_none w ahead z = subst (λ (o : Option Header). behind_waiting o ahead ≡ ahead) (sym z) refl
-
 module _ {R E : Type 0} (source : Ghosts R E) where
-  pub ready : (room : ℕ) (reader : R) (decoder : Decoder R) (due : List ℕ) → IsFresh reader 0 decoder
-      → IsTrue (source.steady reader) → source.ahead reader ≡ Some due
-      → length due + 8 < offset_limit → length due + room < offset_limit → IsReadyToSkip source room decoder due
-  ready room reader decoder due fresh steady ahead title chunk = record {
-    none_waits = λ on. fresh.none_waits;
-    steady = subst (λ (r : R). IsTrue (source.steady r)) (sym fresh.reader) steady;
-    told = view_none decoder.waiting (source.ahead decoder.reader) fresh.none_waits ∙ ap source.ahead fresh.reader
-        ∙ ahead;
-    fits-title = omega (arith, fresh.offset, title);
-    fits-chunk = omega (arith, fresh.offset, chunk);
-  }
-
   of_bytes : (depth : ℕ) (due : List ℕ) (old new : Decoder R) (error : SkipError E)
       → SkipsTold source Any depth due old (Err error) new → IsOfBytes error
   of_bytes depth due old new (s.Read (e.Io fault)) told = tt

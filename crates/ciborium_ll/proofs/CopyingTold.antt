@@ -50,13 +50,13 @@ module _ {R E W F : Type 0} {source : Reader R E} {sink : Writer W F} {old : Sid
       → Copies source sink headers old between → (front : CopiesTitles source sink headers due written between.writer)
       × (view source between.decoder ≡ Some front.rest)
   copies_front {headers} ready copied =
-      let told = consumes_told _ _ due copied.bytes ready.due-told copied.passed.consumed in (
+      let told = consumes_told _ _ due copied.bytes ready.can_read.told copied.passed.consumed in (
         record {
           front = copied.bytes;
           rest = told.0;
           parts = told.2;
           titles = copied.titles;
-          output = appends_told _ _ written (shortest_titles headers) ready.written-told copied.written.appended;
+          output = appends_told _ _ written (shortest_titles headers) ready.can_write.told copied.written.appended;
         },
         told.1,
       )
@@ -78,7 +78,7 @@ module _ {R E W F : Type 0} {source : Reader R E} {sink : Writer W F} {old : Sid
         → CopiesTold source sink count due written old.decoder (Err (r.Read error)) new
     told_stop (e.Io fault) stops =
         let f = copies_front ready stops.copied in
-        let cut = stops.stopped.steady (stops.copied.passed.steady ready.steady) in
+        let cut = stops.stopped.steady (stops.copied.passed.steady ready.can_read.steady) in
         let gone = consumes_told _ _ f.0.rest stops.stopped.read f.1 cut.0 in
         let ends = rw f.1 at cut.1 in
         record {
@@ -110,7 +110,7 @@ module _ {R E W F : Type 0} {source : Reader R E} {sink : Writer W F} {old : Sid
           arith,
           gone.2,
           f.0.parts,
-          ready.fits,
+          ready.can_read.fits-title,
           stops.stopped.full,
           next_read_small stops.stopped.read,
           stops.stopped.offset,
@@ -121,7 +121,16 @@ module _ {R E W F : Type 0} {source : Reader R E} {sink : Writer W F} {old : Sid
 
     never_full : StopsAtPush source sink count old new → ⊥
     never_full stops =
-        grind (arith, copies_front, consumes_told, shrinks_told, titles_no_longer, shortest_no_longer, length-append)
+        let can = ready.can_write in
+        let f = copies_front ready stops.copied in
+        let gone = consumes_told _ _ f.0.rest stops.pulled.title f.1 stops.pulled.bytes in
+        let left = shrinks_told _ _ can.room (length (shortest_titles stops.headers)) can.room-told
+        stops.copied.written.room in
+        let less : left.0 < length (shortest_title stops.last) = rw left.1 at stops.stopped.full in
+        let parts = ap length f.0.parts in
+        let front = titles_no_longer f.0.front stops.headers f.0.titles in
+        let title = shortest_no_longer stops.pulled.title stops.last stops.pulled.is_title in
+        omega (arith, can.enough, less, left.2, parts, ap length gone.2, front, title, length-append {A = ℕ})
 
     told : (result : Result (Unit {0}) (RecodeError E F)) → CopiesHeaders source sink count old result new
         → CopiesTold source sink count due written old.decoder result new

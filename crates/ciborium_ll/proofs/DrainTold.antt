@@ -115,7 +115,7 @@ module _ {R E P W F : Type 0} {parser : Parser P} {source : Reader R E} {sink : 
         counted = grind (arith, told.2, front, sum, ready.whole, length-append);
         parts = grind (arith, told.2, front, append_assoc, some.parts);
         left = cc known;
-        output = appends_told _ _ written some.given ready.written-told some.written.appended;
+        output = appends_told _ _ written some.given ready.can_write.told some.written.appended;
       }
 
   module _ (new : Segment R P parser) (writer' : W) where
@@ -227,12 +227,13 @@ module _ {R E P W F : Type 0} {parser : Parser P} {source : Reader R E} {sink : 
     no_refusal : DrainUnwritten source sink sizes old writer new writer' → ⊥
     no_refusal stops =
         let c = came stops.comes.each in
-        let told = shrinks_told _ _ ready.room _ ready.room-told c.some.written.room in
+        let can = ready.can_write in
+        let told = shrinks_told _ _ can.room _ can.room-told c.some.written.room in
         let full = rw told.1 at stops.stopped.full in
         let kept = kept_bytes stops.between.kept in
         let split = ap length (split_parts parser.kind (kept ++ stops.gives.read) stops.chunk _ stops.gives.split) in
         let whole = ap length c.parts in
-        grind (arith, full, told.2, split, whole, ready.enough, c.counted, stops.gives.reads.unread, length-append)
+        grind (arith, full, told.2, split, whole, can.enough, c.counted, stops.gives.reads.unread, length-append)
 
     -- ---- a drain, by its answer
 

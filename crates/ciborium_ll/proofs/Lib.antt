@@ -24,6 +24,7 @@ pub use Rattle.ciborium_ll_decoder.proofs.BodyCopyLaws
 pub use Rattle.ciborium_ll_decoder.proofs.BodyLaws
 pub use Rattle.ciborium_ll_decoder.proofs.DecodingLaws
 pub use Rattle.ciborium_ll_decoder.proofs.NestLaws
+pub use Rattle.ciborium_ll_decoder.proofs.PremiseLaws
 pub use Rattle.ciborium_ll_decoder.proofs.SkipLaws
 pub use Rattle.ciborium_ll_recode.proofs.ShortenedLaws
 pub use Rattle.ciborium_ll_recode.proofs.ShortensLaws

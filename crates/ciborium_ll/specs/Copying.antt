@@ -11,8 +11,8 @@ use Rattle.ciborium_ll_decoder.specs.declared.copy.RecodeError.{RecodeError}
 use Rattle.ciborium_ll_decoder.specs.declared.copy.RecodeError.TheVariants as r
 use Rattle.ciborium_ll_decoder.specs.declared.dec.Error.TheVariants as e
 use Rattle.ciborium_ll_grammar.specs.Title.{IsTitle, shortest_title, BeginsRefused, IsCutTitle}
-use Rattle.ciborium_ll_decoder.specs.Decoding.{offset_limit, view, IsSteady, MovesOn, ReadsPast, DecoderPullAnswer}
-use Rattle.ciborium_ll_decoder.specs.Decoding.{spelling_of}
+use Rattle.ciborium_ll_decoder.specs.Decoding.{view, MovesOn, ReadsPast, DecoderPullAnswer, spelling_of}
+use Rattle.ciborium_ll_decoder.specs.Premises.{CanRead, CanWrite}
 use Rattle.ciborium_ll_decoder.specs.BodyCopies.{Sides, sides}
 use Rattle.ciborium_ll_io.specs.Writes.{WritesAll, WritesFront}
 
@@ -87,17 +87,12 @@ module _ {R E W F : Type 0} (source : Reader R E) (sink : Writer W F) where
 
   -- ---- over bytes that are told
 
-  -- The decoder is not strict, and the reader gives the bytes that it tells. The writer has room for as many bytes, and
-  -- the offset fits, with 8 to spare. If `18 17` is due, this is room for 2 bytes.
+  -- The decoder is not strict, and can read without a buffer. The writer has room for as many bytes as are due. If
+  -- `18 17` is due, this is room for 2 bytes.
   pub record IsReadyForTitles (now : Sides R W) (due written : List ℕ) : Type 0 where
     pub lenient : spelling_of now.decoder ≡ Any
-    pub steady : IsSteady source now.decoder
-    pub due-told : view source now.decoder ≡ Some due
-    pub written-told : sink.written now.writer ≡ Some written
-    pub room : ℕ
-    pub room-told : sink.room now.writer ≡ Some room
-    pub enough : length due ≤ room
-    pub fits : now.decoder.offset + length due + 8 < offset_limit
+    pub can_read : CanRead source 0 now.decoder due
+    pub can_write : CanWrite sink (λ room. length due ≤ room) now.writer written
 
   -- The bytes due begin with titles of the headers, and their shortest titles were written: `81 17` if `81 18 17` is
   -- due.

@@ -16,6 +16,7 @@ use Rattle.ciborium_ll_grammar.specs.Strings.{Kind, Text, IsWritable, most_kept}
 use Rattle.ciborium_ll_text.specs.Text.{IsCharacters}
 use Rattle.ciborium_ll_decoder.specs.Kept.{kept_bytes}
 use Rattle.ciborium_ll_decoder.specs.Decoding.{offset_limit, IsSteady, MovesOn, ReadsPast}
+use Rattle.ciborium_ll_decoder.specs.Premises.{CanWrite}
 use Rattle.ciborium_ll_io.specs.Writes.{WritesAll, WritesFront}
 use Rattle.ciborium_ll_decoder.specs.Chunks.{GivesChunk, SegmentPullAnswer, SegmentEnds, left_of, rest}
 use Rattle.ciborium_ll_decoder.specs.Chunks.{segment_decoder, segment_reference}
@@ -154,10 +155,7 @@ module _ {R E P W F : Type 0} {parser : Parser P} (source : Reader R E) (sink : 
     pub body-told : rest source segment ≡ Some body
     pub whole : length body ≡ left_of segment
     pub fits : segment.decoder.now.offset + segment.unread < offset_limit
-    pub written-told : sink.written writer ≡ Some written
-    pub room : ℕ
-    pub room-told : sink.room writer ≡ Some room
-    pub enough : length body ≤ room
+    pub can_write : CanWrite sink (λ room. length body ≤ room) writer written
 
   -- The whole body was written, as soon as the sizes were enough: `01 02 03` by 3 calls with the sizes 2, 2 and 2.
   pub record WritesBody (sizes body written : List ℕ) (calls : ℕ) (new : Segment R P parser) (writer' : W) : Type 0

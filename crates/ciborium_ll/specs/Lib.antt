@@ -34,6 +34,7 @@ pub use Rattle.ciborium_ll_decoder.specs.ErrorTexts
 pub use Rattle.ciborium_ll_decoder.specs.Finishing
 pub use Rattle.ciborium_ll_decoder.specs.Kept
 pub use Rattle.ciborium_ll_decoder.specs.Lend
+pub use Rattle.ciborium_ll_decoder.specs.Premises
 pub use Rattle.ciborium_ll_decoder.specs.Progress
 pub use Rattle.ciborium_ll_decoder.specs.Segments
 pub use Rattle.ciborium_ll_recode.specs.Exactly

@@ -8,6 +8,7 @@ pub mod FinishLaws
 pub mod FlatStrings
 pub mod LoanLaws
 pub mod NestLaws
+pub mod PremiseLaws
 pub mod SegmentLaws
 pub mod SkipLaws
 pub mod StrictLaws

@@ -5,6 +5,7 @@ pub mod ErrorTexts
 pub mod Finishing
 pub mod Kept
 pub mod Lend
+pub mod Premises
 pub mod Progress
 pub mod Segments
 pub mod Skipping

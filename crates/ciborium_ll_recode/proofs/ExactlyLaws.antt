@@ -1,16 +1,15 @@
 -- The condition under which a copy succeeds, and the bytes that it wrote and left, in terms of `Shortens`.
-use Rattle.std.proofs.Common.{◌≡◌, ◌≤◌, ◌⊎◌, ℕ, inl, inr, List, ◌++◌, length, Some, None, Result, Ok}
+use Rattle.std.proofs.Common.{◌≡◌, ℕ, inl, inr, List, ◌++◌, length, Some, None, Result, Ok}
 use Rattle.std.proofs.Common.{Err, IsOk, sym, ap, ◌∙◌, arith}
 use Rattle.ciborium_ll_io.specs.declared.io.Read.{Ghosts as Reader}
 use Rattle.ciborium_ll_io.specs.declared.io.Write.{Ghosts as Writer}
 use Rattle.ciborium_ll_decoder.specs.declared.copy.RecodeError.{RecodeError}
 use Rattle.ciborium_ll_grammar.specs.declared.spelling.Spelling.{Spelling}
-use Rattle.ciborium_ll_grammar.specs.declared.spelling.Spelling.TheVariants.{Any, Shortest}
+use Rattle.ciborium_ll_grammar.specs.declared.spelling.Spelling.TheVariants.{Any}
 use Rattle.ciborium_ll_grammar.specs.Elements.{spelling}
-use Rattle.ciborium_ll_grammar.specs.Faults.{BeginsWithElements}
 use Rattle.ciborium_ll_decoder.specs.BodyCopies.{Sides}
 use Rattle.ciborium_ll_recode.specs.Recoding.{CopiesElements}
-use Rattle.ciborium_ll_recode.specs.RecodingTold.{IsTold, IsReady, CopiesFront, RecodesTold}
+use Rattle.ciborium_ll_recode.specs.RecodingTold.{HasRoom, IsReady, CopiesFront, RecodesTold}
 use Rattle.ciborium_ll_recode.specs.Exactly.{OnlyBytesStop, CopiesExactly}
 use Rattle.ciborium_ll_decoder.proofs.BodyLaws.{view_none}
 use Rattle.ciborium_ll_recode.proofs.RecodeReadyLaws.{recode_told, recode_exactly}
@@ -23,10 +22,7 @@ module _ {R E W F : Type 0} {allowed : Spelling} (source : Reader R E) (sink : W
   ready : IsReady source sink allowed count room old due written
   ready =
       let ahead = view_none old.decoder.waiting (source.ahead old.decoder.reader) alone.none_waits ∙ alone.due-told in
-      let none = λ (on : allowed ≡ Shortest). alone.none_waits in
-      let told : IsTold source sink allowed old due written = search in
-      let enough : ((front : BeginsWithElements Any count due) × (length (spelling front.marks) ≤ alone.room))
-      ⊎ (length due ≤ alone.room) = elim alone.enough [
+      let enough : HasRoom count due alone.room = elim alone.enough [
         | inl copy ↦ (
             let front = shortened_front Any count due copy.0 copy.1 copy.2 in
             let fits = copy.3 in
@@ -34,7 +30,22 @@ module _ {R E W F : Type 0} {allowed : Spelling} (source : Reader R E) (sink : W
             )
         | inr fits ↦ inr fits
       ] in
-      search
+      record {
+        mode = alone.mode;
+        can_read = record {
+          none_waits = λ on. alone.none_waits;
+          steady = alone.steady;
+          told = ahead;
+          fits-title = alone.fits-title;
+          fits-chunk = alone.fits-chunk;
+        };
+        can_write = record {
+          told = alone.written-told;
+          room = alone.room;
+          room-told = alone.room-told;
+          enough = enough;
+        };
+      }
 
   module _ (new : Sides R W) where
     -- After a copy no header waits.

@@ -11,6 +11,7 @@ use Rattle.ciborium_ll_grammar.specs.declared.spelling.Spelling.{Spelling}
 use Rattle.ciborium_ll_grammar.specs.Elements.{spelling}
 use Rattle.ciborium_ll_grammar.specs.Faults.{Short, FirstFault, CutTitle, CutBody, BeginsWithElements}
 use Rattle.ciborium_ll_decoder.specs.Decoding.{view, IsSteady}
+use Rattle.ciborium_ll_decoder.specs.Premises.{longest_affix}
 use Rattle.ciborium_ll_decoder.specs.BodyCopies.{Sides}
 use Rattle.ciborium_ll_recode.specs.Recoding.{CopiesElements, StopsAtTitle, StopsInBody, StopsCopy, StopsWriting}
 use Rattle.ciborium_ll_recode.specs.RecodingTold.{RecodesAnyhow, IsReady, IsTold, MeetsFault, RecodesTold}
@@ -63,23 +64,33 @@ module _ {R E W F : Type 0} {allowed : Spelling} (source : Reader R E) (sink : W
     short_told fault new (inr stops) = cut_body_told fault new stops
 
   module _ (ready : IsReady source sink allowed count room old due written) where
+    -- Both sides tell their bytes.
+    told : IsTold source sink allowed old due written
+    told = record {
+      mode = ready.mode;
+      due-told = ready.can_read.told;
+      written-told = ready.can_write.told;
+      none_waits = λ on. ready.can_read.none_waits (ready.mode ∙ on);
+    }
+
     -- The offset fits all reads, so no read passes it.
-    offset_fits : (new : Sides R W) → PassesAnyhow source sink count room old due written ready.told new → ⊥
+    offset_fits : (new : Sides R W) → PassesAnyhow source sink count room old due written told new → ⊥
     offset_fits new passes =
         let stop = passes.0.stop in
         let at = stop.stops in
         let consumed : stop.consumed ≤ length stop.ahead = grind arith in
-        let title : old.decoder.offset + length due + 8 < 2 ^ 64 = ready.fits-title in
-        let chunk : old.decoder.offset + length due + room < 2 ^ 64 = ready.fits-chunk in
-        let full : 2 ^ 64 ≤ new.decoder.offset + max 8 room = passes.1 in
+        let title : old.decoder.offset + length due + longest_affix < 2 ^ 64 = ready.can_read.fits-title in
+        let chunk : old.decoder.offset + length due + room < 2 ^ 64 = ready.can_read.fits-chunk in
+        let full : 2 ^ 64 ≤ new.decoder.offset + max longest_affix room = passes.1 in
         omega (arith, ap length stop.is, consumed, title, chunk, full, passes.0.offset, length-append {A = ℕ})
 
     writer_fits : (new : Sides R W) → StopsWriting source sink count room old new → ⊥
     writer_fits new stops =
-        let gone = consumes_told _ _ due (stops.bytes ++ stops.read) ready.told.due-told stops.passed.consumed in
-        let left = shrinks_told _ _ ready.room (length stops.whole) ready.room-told stops.written.room in
+        let can = ready.can_write in
+        let gone = consumes_told _ _ due (stops.bytes ++ stops.read) ready.can_read.told stops.passed.consumed in
+        let left = shrinks_told _ _ can.room (length stops.whole) can.room-told stops.written.room in
         let less : left.0 < length stops.next = rw left.1 at stops.fails.full in
-        elim ready.enough [
+        elim can.enough [
           | inl fits ↦ omega (arith, less, left.2, fits.1, next_spelled gone.0 stops.next_write fits.0 gone.2)
           | inr fits ↦ omega (arith, left.2, ap length gone.2, next_shorter stops.next_write, length-append {A = ℕ})
         ]
@@ -87,13 +98,13 @@ module _ {R E W F : Type 0} {allowed : Spelling} (source : Reader R E) (sink : W
     anyhow : (new : Sides R W) (result : Result (Unit {0}) (RecodeError E F))
         → CopiesElements source sink count room old result new
         → RecodesAnyhow source sink allowed count room due written old.decoder result new
-    anyhow new result all = recode_anyhow source sink count room old due written ready.told new result all
+    anyhow new result all = recode_anyhow source sink count room old due written told new result all
 
     pub recode_told : (new : Sides R W) (result : Result (Unit {0}) (RecodeError E F))
         → CopiesElements source sink count room old result new
         → RecodesTold source sink allowed count due written old.decoder result new
     recode_told new (Ok unit) all = anyhow new (Ok unit) all
-    recode_told new (Err (r.Read (e.Io fault))) stops = short_told ready.steady ready.told fault new stops
+    recode_told new (Err (r.Read (e.Io fault))) stops = short_told ready.can_read.steady told fault new stops
     recode_told new (Err (r.Read (e.Syntax at))) stops = anyhow new (Err (r.Read (e.Syntax at))) stops
     recode_told new (Err (r.Read e.TooLong)) stops =
         absurd (offset_fits new (anyhow new (Err (r.Read e.TooLong)) stops))

@@ -12,8 +12,9 @@ use Rattle.ciborium_ll_decoder.specs.declared.copy.RecodeError.{RecodeError}
 
 module _ {R E W F : Type 0} (source : Reader R E) (sink : Writer W F) where
   -- Only the bytes can stop a copy. No header waits, the reader gives the bytes that it tells, and the offset fits
-  -- them, with 8 and with the buffer's length to spare. The writer has room for the copy of `count` elements if that
-  -- many are next, and otherwise for as many bytes as are due. For one element of `18 17 05`, this is room for 1 byte.
+  -- them, with the 8 bytes of the longest affix and with the buffer's length to spare. The writer has room for the copy
+  -- of `count` elements if that many are next, and otherwise for as many bytes as are due. For one element of
+  -- `18 17 05`, this is room for 1 byte. `IsReady` follows from it, and rests on more definitions.
   pub record OnlyBytesStop (allowed : Spelling) (count room-in : ℕ) (decoder : Decoder R) (writer : W)
       (due written : List ℕ) : Type 0 where
     pub mode : decoder.spelling ≡ allowed

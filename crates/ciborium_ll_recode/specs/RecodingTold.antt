@@ -14,7 +14,8 @@ use Rattle.ciborium_ll_grammar.specs.Strings.{IsWritable, most_kept}
 use Rattle.ciborium_ll_grammar.specs.Elements.{Mark, spelling, IsRun}
 use Rattle.ciborium_ll_grammar.specs.Faults.{Point, Due, In, BodyDue, Reaches, Answer, Short, Syntax, BeginsWithElements}
 use Rattle.ciborium_ll_grammar.specs.Faults.{HasFault, with_front}
-use Rattle.ciborium_ll_decoder.specs.Decoding.{offset_limit, Begins, view, IsSteady, spelling_of}
+use Rattle.ciborium_ll_decoder.specs.Decoding.{offset_limit, Begins, view, spelling_of}
+use Rattle.ciborium_ll_decoder.specs.Premises.{CanRead, CanWrite, longest_affix}
 use Rattle.ciborium_ll_recode.specs.Recoding.{NextWrite}
 use Rattle.ciborium_ll_decoder.specs.BodyCopies.{Sides}
 
@@ -58,6 +59,12 @@ pub record StopInWriting (count room : ℕ) (bytes : List ℕ) : Type 0 where
   pub written : List ℕ
   pub begun : (part : List ℕ) × (written ≡ whole ++ part) × Begins part next
 
+-- The room is enough for the spelling of `count` elements if that many are next, and otherwise for as many bytes as are
+-- due. For two elements of `18 17 01`, it is 2 or more.
+abbrev pub HasRoom : ℕ → List ℕ → ℕ → Type 0
+HasRoom count due room =
+    ((front : BeginsWithElements Any count due) × (length (spelling front.marks) ≤ room)) ⊎ (length due ≤ room)
+
 module _ {R E W F : Type 0} (source : Reader R E) (sink : Writer W F) where
   -- The bytes that are due and those that were written are told. The decoder is strict or not, as given. No header may
   -- wait on a strict decoder, which never read that header itself. If the header of `82` waits before `01 02`, the
@@ -68,20 +75,13 @@ module _ {R E W F : Type 0} (source : Reader R E) (sink : Writer W F) where
     pub written-told : sink.written now.writer ≡ Some written
     pub none_waits : allowed ≡ Shortest → now.decoder.waiting ≡ None
 
-  -- The reader gives the bytes that it tells. The offset fits the bytes that are due, with 8 and with the buffer's
-  -- length to spare. The writer has room for the elements' spelling if that many are next, and otherwise for as many
-  -- bytes as are due. For two elements of `18 17 01`, this is room for 2 bytes.
+  -- The decoder can read through a buffer of `room-in` bytes, and the writer can write the copy. The decoder is strict
+  -- or not, as given. For two elements of `18 17 01`, the writer has room for 2 bytes.
   pub record IsReady (allowed : Spelling) (count room-in : ℕ) (now : Sides R W)
       (due written : List ℕ) : Type 0 where
-    pub steady : IsSteady source now.decoder
-    pub told : IsTold allowed now due written
-    pub room : ℕ
-    pub room-told : sink.room now.writer ≡ Some room
-    -- Room for the spelling of the elements if they are next, and otherwise for as many bytes as are due.
-    pub enough : ((front : BeginsWithElements Any count due) × (length (spelling front.marks) ≤ room))
-        ⊎ (length due ≤ room)
-    pub fits-title : now.decoder.offset + length due + 8 < offset_limit
-    pub fits-chunk : now.decoder.offset + length due + room-in < offset_limit
+    pub mode : spelling_of now.decoder ≡ allowed
+    pub can_read : CanRead source room-in now.decoder due
+    pub can_write : CanWrite sink (HasRoom count due) now.writer written
 
   -- ---- from the old decoder to both sides: of the old writer it is said what was written
 
@@ -148,7 +148,7 @@ module _ {R E W F : Type 0} (source : Reader R E) (sink : Writer W F) where
   RecodesAnyhow allowed count room-in due written old (Err (r.Read (e.Syntax place))) new =
       (start : ℕ) × (place ≡ old.offset + start) × MeetsFault allowed count due written (Syntax start) old new
   RecodesAnyhow allowed count room-in due written old (Err (r.Read e.TooLong)) new =
-      StopsShort count due written old new × (offset_limit ≤ new.decoder.offset + max 8 room-in)
+      StopsShort count due written old new × (offset_limit ≤ new.decoder.offset + max longest_affix room-in)
   RecodesAnyhow allowed count room-in due written old (Err (r.Read e.Waiting)) new = ⊥
   RecodesAnyhow allowed count room-in due written old (Err (r.Write fault)) new =
       StopsUnwritten count room-in due written old new

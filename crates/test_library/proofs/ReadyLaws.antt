@@ -4,19 +4,14 @@ use Rattle.ciborium_ll.specs.Types.Spelling.TheVariants.{Any}
 use Rattle.ciborium_ll.specs.Types.Read.{Ghosts as Reader}
 use Rattle.ciborium_ll.specs.Types.Write.{Ghosts as Writer}
 use Rattle.ciborium_ll.specs.Types.Decoder.{Decoder}
-use Rattle.ciborium_ll.specs.Decoding.{IsFresh, offset_limit, view}
+use Rattle.ciborium_ll.specs.Decoding.{IsFresh, offset_limit}
 use Rattle.ciborium_ll.specs.Copying.{IsReadyForTitles}
 use Rattle.ciborium_ll.specs.Exactly.{OnlyBytesStop}
+use Rattle.ciborium_ll.specs.Premises.{longest_affix}
 use Rattle.ciborium_ll.specs.Sides.{sides}
-use Rattle.ciborium_ll.proofs.BodyLaws.{view_none}
+use Rattle.ciborium_ll.proofs.PremiseLaws.{fresh_can_read}
 
 module _ {D S E F : Type 0} (source : Reader D E) (sink : Writer S F) where
-  -- all that the reader has ahead is due
-  due_ahead : (reader : D) (decoder : Decoder D) (due : List ℕ) → IsFresh reader 0 decoder → source.ahead reader
-      ≡ Some due → view source decoder ≡ Some due
-  due_ahead reader decoder due fresh ahead =
-      view_none decoder.waiting (source.ahead decoder.reader) fresh.none_waits ∙ ap source.ahead fresh.reader ∙ ahead
-
   still_steady : (reader : D) (decoder : Decoder D) → IsFresh reader 0 decoder → IsTrue (source.steady reader)
       → IsTrue (source.steady decoder.reader)
   still_steady reader decoder fresh steady = subst (λ (r : D). IsTrue (source.steady r)) (sym fresh.reader) steady
@@ -25,7 +20,7 @@ module _ {D S E F : Type 0} (source : Reader D E) (sink : Writer S F) where
       (due written : List ℕ) → IsFresh reader 0 decoder → IsTrue (source.steady reader)
       → source.ahead reader ≡ Some due → sink.written writer ≡ Some written → sink.room writer ≡ Some room
       → length due ≤ room
-      → length due + 8 < offset_limit → length due + size < offset_limit
+      → length due + longest_affix < offset_limit → length due + size < offset_limit
       → OnlyBytesStop source sink Any count size decoder writer due written
   ready_for_elements count size room reader decoder writer due written fresh steady ahead output space enough title
       chunk =
@@ -46,14 +41,9 @@ module _ {D S E F : Type 0} (source : Reader D E) (sink : Writer S F) where
       → IsFresh reader 0 decoder → IsTrue (source.steady reader)
       → source.ahead reader ≡ Some due → sink.written writer ≡ Some written → sink.room writer ≡ Some room
       → length due ≤ room
-      → length due + 8 < offset_limit → IsReadyForTitles source sink (sides decoder writer) due written
+      → length due + longest_affix < offset_limit → IsReadyForTitles source sink (sides decoder writer) due written
   ready_for_titles room reader decoder writer due written fresh steady ahead output space enough title = record {
     lenient = fresh.mode;
-    steady = still_steady reader decoder fresh steady;
-    due-told = due_ahead reader decoder due fresh ahead;
-    written-told = output;
-    room = room;
-    room-told = space;
-    enough = enough;
-    fits = omega (arith, fresh.offset, title);
+    can_read = fresh_can_read source 0 reader decoder due fresh steady ahead title (omega (arith, title));
+    can_write = record { told = output; room = room; room-told = space; enough = enough };
   }

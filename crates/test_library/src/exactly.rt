@@ -1,8 +1,10 @@
 // Copies between slices. Proofs here, outside the library, say when they succeed. They show that a caller can meet the
 // library's conditions on the reader, the writer and the offset.
 
-ghost use Rattle.std.specs.Prelude.{◌≤◌, ◌+◌, ◌<◌, ◌^◌, ◌↔◌, ℕ, List, IsTrue, length};
+ghost use Rattle.std.specs.Prelude.{◌≤◌, ◌+◌, ◌<◌, ◌↔◌, ℕ, List, IsTrue, length};
 ghost use Rattle.ciborium_ll.specs.Copying.{TitlesInFront};
+ghost use Rattle.ciborium_ll.specs.Decoding.{offset_limit};
+ghost use Rattle.ciborium_ll.specs.Premises.{longest_affix};
 ghost use Rattle.ciborium_ll.specs.Shortening.{Shortens};
 ghost use Rattle.ciborium_ll.specs.Types.Spelling.TheVariants.{Any};
 
@@ -16,7 +18,7 @@ use ciborium_ll::{Decoder, Encoder};
 // elements.
 fn copies_elements(bytes: &[u8], space: &mut [u8], count: usize) -> bool
     requires room { length bytes.now ≤ length space.old }
-    requires fits { length bytes.now + 8 < 2 ^ 64 }
+    requires fits { length bytes.now + longest_affix < offset_limit }
     ensures { IsTrue result ↔ ((copy : List ℕ) × (rest : List ℕ) × Shortens Any count bytes.now copy rest) }
 {
     let mut decoder = Decoder::from(SliceReader::new(bytes));
@@ -29,7 +31,7 @@ fn copies_elements(bytes: &[u8], space: &mut [u8], count: usize) -> bool
 // titles.
 fn copies_titles(bytes: &[u8], space: &mut [u8], count: usize) -> bool
     requires room { length bytes.now ≤ length space.old }
-    requires fits { length bytes.now + 8 < 2 ^ 64 }
+    requires fits { length bytes.now + longest_affix < offset_limit }
     ensures { IsTrue result ↔ TitlesInFront count bytes.now }
 {
     let mut decoder = Decoder::from(SliceReader::new(bytes));

@@ -2,7 +2,7 @@
 
 ghost use Rattle.std.specs.Prelude.{◌≤◌, ◌↔◌, ℕ, List, length, IsOk, None};
 ghost use Rattle.ciborium_ll.specs.Decoding.{offset_of};
-ghost use Rattle.cbor_skip.specs.SkippingTold.{IsReadyToSkip};
+ghost use Rattle.ciborium_ll.specs.Premises.{CanRead};
 ghost use Rattle.cbor_dump.specs.Checking.{ReadsAsCheck};
 ghost use Rattle.cbor_dump.specs.Dumps.{AreRowsTaken};
 ghost use Rattle.cbor_dump.specs.Sequences.{IsSequence};
@@ -341,9 +341,9 @@ where
     R::Error: Drop,
     requires shallow { depth ≤ MOST_LEVELS }
     requires alike { IsInMode spelling decoder.old }
-    ensures exactly { (due : List ℕ) → IsReadyToSkip R.Read most_bytes decoder.old due → AreRowsTaken result
+    ensures exactly { (due : List ℕ) → CanRead R.Read most_bytes decoder.old due → AreRowsTaken result
         → (IsOk result ↔ IsSequence spelling depth due) }
-    ensures told { (due : List ℕ) → IsReadyToSkip R.Read most_bytes decoder.old due → AreRowsTaken result
+    ensures told { (due : List ℕ) → CanRead R.Read most_bytes decoder.old due → AreRowsTaken result
         → FindsBehindRows spelling depth due (offset_of decoder.old)
         (dump_said result None (offset_of decoder.new)) }
     ensures reads { AreRowsTaken result → ReadsAsCheck R.Read depth decoder.old result decoder.new }

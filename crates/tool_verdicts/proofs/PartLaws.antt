@@ -12,7 +12,8 @@ use Rattle.ciborium_ll.proofs.DecodingLaws.{ReadsPast-none, ReadsPast-then}
 use Rattle.cbor_skip.specs.declared.SkipError.{SkipError}
 use Rattle.cbor_skip.specs.declared.SkipError.TheVariants as s
 use Rattle.cbor_skip.specs.Skipping.{ReadsCounted, ReadsItem, allowed_by}
-use Rattle.cbor_skip.specs.SkippingTold.{IsReadyToSkip, SkipsTold}
+use Rattle.ciborium_ll.specs.Premises.{CanRead}
+use Rattle.cbor_skip.specs.SkippingTold.{SkipsTold}
 use Rattle.cbor_skip.proofs.ItemSteps.{items_item}
 use Rattle.cbor_skip.proofs.StrictnessLaws.{items_looser, passed_keeps}
 use Rattle.cbor_dump.specs.Counted.{SkipsFewItems}
@@ -93,7 +94,7 @@ module _ {R E : Type 0} (source : Ghosts R E) where
 
   -- ---- the bytes are told
 
-  module _ (depth room : ℕ) (old : Decoder R) (due : List ℕ) (ready : IsReadyToSkip source room old due) where
+  module _ (depth room : ℕ) (old : Decoder R) (due : List ℕ) (ready : CanRead source room old due) where
     -- The end of the read consumed nothing, so no byte was left.
     at_end : (ahead : List ℕ) (between new : Decoder R) (error : SkipError E)
         → SkipsTold source (spelling_of old) depth ahead between (Err error) new → IsEnd error between.offset new.offset
@@ -205,9 +206,9 @@ index_said source depth room most taken then_taken old new result verdict is ind
 
 -- After the items that are passed over, the verdict is that on the bytes that follow them.
 pub rest_found : {R E : Type 0} (source : Ghosts R E) (skip : ℕ) (most : Option ℕ) (one : Bool) (depth room : ℕ)
-    (old between : Decoder R) (due : List ℕ) → IsReadyToSkip source room old due
+    (old between : Decoder R) (due : List ℕ) → CanRead source room old due
     → ReadsCounted source skip depth old between → (verdict : Verdict)
-    → ((ahead : List ℕ) → IsReadyToSkip source room between ahead
+    → ((ahead : List ℕ) → CanRead source room between ahead
     → FindsRest most one (spelling_of between) depth ahead between.offset verdict)
     → FindsPart skip most one (spelling_of old) depth due old.offset verdict
 unfolding counted_items

@@ -3,7 +3,7 @@
 ghost use Rattle.std.specs.Prelude.{◌≡◌, ◌≤◌, ◌↔◌, ℕ, List};
 ghost use Rattle.ciborium_ll.specs.Decoding.{IsFreshAs, offset_of, spelling_of};
 ghost use Rattle.ciborium_ll.specs.Items.{IsItem};
-ghost use Rattle.cbor_skip.specs.SkippingTold.{IsReadyToSkip};
+ghost use Rattle.ciborium_ll.specs.Premises.{CanRead};
 ghost use Rattle.cbor_dump.specs.Sequences.{IsSequence};
 ghost use Rattle.tool_verdicts.specs.Checking.{Finds, FindsAll, FindsOne, IsWanted, FoundWell, SaysVerdict, SaysItems, SaysOne};
 ghost use Rattle.tool_verdicts.specs.Checking.{end_said, fault_said, sequence_said, single_said, unless_failed};
@@ -58,9 +58,9 @@ pub fn wanted<R: Read>(decoder: &mut Decoder<R>, one: bool, depth: usize) -> Ver
 where
     R::Error: Drop,
     requires { depth ≤ MOST_LEVELS }
-    ensures exactly { (due : List ℕ) → IsReadyToSkip R.Read BUFFER_SIZE decoder.old due
+    ensures exactly { (due : List ℕ) → CanRead R.Read BUFFER_SIZE decoder.old due
         → (FoundWell result ↔ IsWanted one (spelling_of decoder.old) depth due) }
-    ensures told { (due : List ℕ) → IsReadyToSkip R.Read BUFFER_SIZE decoder.old due
+    ensures told { (due : List ℕ) → CanRead R.Read BUFFER_SIZE decoder.old due
         → Finds one (spelling_of decoder.old) depth due (offset_of decoder.old) result }
     ensures says { SaysVerdict R.Read one depth BUFFER_SIZE decoder.old result decoder.new }
 {
@@ -77,9 +77,9 @@ where
     R::Error: Drop,
     requires { depth ≤ MOST_LEVELS }
     ensures says { SaysItems R.Read depth BUFFER_SIZE decoder.old result decoder.new }
-    ensures exactly { (due : List ℕ) → IsReadyToSkip R.Read BUFFER_SIZE decoder.old due
+    ensures exactly { (due : List ℕ) → CanRead R.Read BUFFER_SIZE decoder.old due
         → (FoundWell result ↔ IsSequence (spelling_of decoder.old) depth due) }
-    ensures told { (due : List ℕ) → IsReadyToSkip R.Read BUFFER_SIZE decoder.old due
+    ensures told { (due : List ℕ) → CanRead R.Read BUFFER_SIZE decoder.old due
         → FindsAll (spelling_of decoder.old) depth due (offset_of decoder.old) result }
 {
     let mut buffer = [0; BUFFER_SIZE];
@@ -106,9 +106,9 @@ where
     R::Error: Drop,
     requires { depth ≤ MOST_LEVELS }
     ensures says { SaysOne R.Read depth BUFFER_SIZE decoder.old result decoder.new }
-    ensures exactly { (due : List ℕ) → IsReadyToSkip R.Read BUFFER_SIZE decoder.old due
+    ensures exactly { (due : List ℕ) → CanRead R.Read BUFFER_SIZE decoder.old due
         → (FoundWell result ↔ IsItem (spelling_of decoder.old) depth due) }
-    ensures told { (due : List ℕ) → IsReadyToSkip R.Read BUFFER_SIZE decoder.old due
+    ensures told { (due : List ℕ) → CanRead R.Read BUFFER_SIZE decoder.old due
         → FindsOne (spelling_of decoder.old) depth due (offset_of decoder.old) result }
 {
     let mut buffer = [0; BUFFER_SIZE];

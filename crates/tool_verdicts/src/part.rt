@@ -3,7 +3,7 @@
 ghost use Rattle.std.specs.Prelude.{◌≡◌, ◌≤◌, ◌↔◌, ℕ, List, Option as AnyOption, [], ◌∷◌, IsTrue, Some, OnErr, OnOk};
 ghost use Rattle.ciborium_ll.specs.Decoding.{offset_of, spelling_of};
 ghost use Rattle.ciborium_ll.specs.Limits.{MOST_LEVELS};
-ghost use Rattle.cbor_skip.specs.SkippingTold.{IsReadyToSkip};
+ghost use Rattle.ciborium_ll.specs.Premises.{CanRead};
 ghost use Rattle.tool_verdicts.specs.Parts.{AddsSpans, EndsAt, FindsPart, FindsSome, IndexesItems, IndexesPart, SaysPart};
 ghost use Rattle.tool_verdicts.specs.Parts.{SaysSome};
 ghost use Rattle.tool_verdicts.specs.declared.check.TheConstants.{BUFFER_SIZE};
@@ -77,7 +77,7 @@ pub fn wanted_part<R: Read>(
 where
     R::Error: Drop,
     requires { depth ≤ MOST_LEVELS }
-    ensures told { (due : List ℕ) → IsReadyToSkip R.Read BUFFER_SIZE decoder.old due
+    ensures told { (due : List ℕ) → CanRead R.Read BUFFER_SIZE decoder.old due
         → FindsPart skip most one (spelling_of decoder.old) depth due (offset_of decoder.old) result }
     ensures says { SaysPart R.Read skip most one depth BUFFER_SIZE decoder.old result decoder.new }
 {
@@ -96,7 +96,7 @@ fn some<R: Read>(decoder: &mut Decoder<R>, most: Option<usize>, depth: usize) ->
 where
     R::Error: Drop,
     requires { depth ≤ MOST_LEVELS }
-    ensures told { (due : List ℕ) → IsReadyToSkip R.Read BUFFER_SIZE decoder.old due
+    ensures told { (due : List ℕ) → CanRead R.Read BUFFER_SIZE decoder.old due
         → FindsSome (spelling_of decoder.old) depth most due (offset_of decoder.old) result }
     ensures says { SaysSome R.Read depth BUFFER_SIZE most decoder.old result decoder.new }
 {

@@ -1,5 +1,5 @@
 -- Laws of a copy of a stream, and of the flush after the copy.
-use Rattle.std.proofs.Common.{◌≡◌, ℕ, zero, suc, ◌+◌, IsTrue, IsSome, Option, List, [], ◌++◌, length, drop}
+use Rattle.std.proofs.Common.{◌≡◌, ℕ, zero, suc, ◌+◌, IsSome, Option, List, [], ◌++◌, length, drop}
 use Rattle.std.proofs.Common.{None, Some, Result, Ok, Err, refl, sym, ap, subst, ◌∙◌, inl, inr, arith}
 use Rattle.ciborium_ll_grammar.specs.declared.spelling.Spelling.TheVariants.{Any}
 use Rattle.ciborium_ll.specs.Types.Read.{Ghosts as Reader}
@@ -15,9 +15,10 @@ use Rattle.ciborium_ll.specs.Elements.{spelling}
 use Rattle.ciborium_ll.specs.Faults.{Answer, Short, Syntax}
 use Rattle.ciborium_ll.specs.Decoding.{IsFresh, behind_waiting, view}
 use Rattle.ciborium_ll.specs.Finishing.{EndsBody}
+use Rattle.ciborium_ll.specs.Premises.{CanWrite}
 use Rattle.ciborium_ll.specs.Recoding.{CopiesAll, Recodes, StopsAtTitle, StopsInBody, StopsCopy}
-use Rattle.ciborium_ll.specs.RecodingTold.{CopiesFront, IsReady, IsTold, MeetsFault, RecodesTold, RecodesAnyhow}
-use Rattle.ciborium_ll.specs.RecodingTold.{StopsShort}
+use Rattle.ciborium_ll.specs.RecodingTold.{CopiesFront, HasRoom, IsReady, IsTold, MeetsFault, RecodesTold}
+use Rattle.ciborium_ll.specs.RecodingTold.{RecodesAnyhow, StopsShort}
 use Rattle.ciborium_ll.specs.Sides.{Sides, sides}
 use Rattle.ciborium_ll.proofs.DecodingLaws.{passes_settled}
 use Rattle.ciborium_ll.proofs.StrictFaultLaws.{no_fault}
@@ -50,13 +51,9 @@ module _ {R E W F : Type 0} (source : Reader R E) (sink : Writer W F) where
       → IsFresh reader 0 decoder → writer' ≡ writer → AreReady source sink count reader writer due written
       → IsReady source sink Any count 64 (sides decoder writer') due written
   ready count reader writer writer' decoder due written fresh same are = record {
-    steady = subst (λ (r : R). IsTrue (source.steady r)) (sym fresh.reader) are.steady;
-    told = told reader writer writer' decoder due written fresh same are.tell;
-    room = are.room;
-    room-told = ap sink.room same ∙ are.room-told;
-    enough = are.enough;
-    fits-title = (let fits = are.fits in omega (arith, fresh.offset, fits));
-    fits-chunk = (let fits = are.fits in omega (arith, fresh.offset, fits));
+    mode = fresh.mode;
+    can_read = are.can_read decoder fresh;
+    can_write = subst (λ (w : W). CanWrite sink (HasRoom count due) w written) (sym same) are.can_write;
   }
 
   -- ---- no header waits after a copy from a fresh decoder

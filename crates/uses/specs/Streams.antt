@@ -1,5 +1,5 @@
 -- The effect of a copy of a stream to its shortest spelling.
-use Rattle.std.specs.Prelude.{◌≡◌, ℕ, ◌+◌, ◌<◌, ◌≤◌, ◌^◌, ◌⊎◌, List, ◌++◌, length, drop, IsTrue, IsSome, Some}
+use Rattle.std.specs.Prelude.{◌≡◌, ℕ, ◌+◌, ◌≤◌, ◌⊎◌, List, ◌++◌, length, drop, IsSome, Some}
 use Rattle.std.specs.Prelude.{Result, Ok, Err, OnOk, OnErr}
 use Rattle.ciborium_ll_grammar.specs.declared.spelling.Spelling.TheVariants.{Any}
 use Rattle.ciborium_ll.specs.Types.Read.{Ghosts as Reader}
@@ -8,12 +8,17 @@ use Rattle.ciborium_ll.specs.Types.Decoder.{Decoder}
 use Rattle.ciborium_ll.specs.Types.Error.TheVariants as e
 use Rattle.ciborium_ll.specs.Types.RecodeError.{RecodeError}
 use Rattle.ciborium_ll.specs.Types.RecodeError.TheVariants as r
-use Rattle.ciborium_ll.specs.Decoding.{IsFresh, reader_of}
+use Rattle.ciborium_ll.specs.Decoding.{IsFresh, offset_limit, reader_of}
 use Rattle.ciborium_ll.specs.Elements.{spelling}
 use Rattle.ciborium_ll.specs.Faults.{Answer, Short, Syntax, HasFault, BeginsWithElements}
+use Rattle.ciborium_ll.specs.Premises.{CanRead, CanWrite}
 use Rattle.ciborium_ll.specs.Recoding.{Recodes}
-use Rattle.ciborium_ll.specs.RecodingTold.{StopInReading, StopInWriting}
+use Rattle.ciborium_ll.specs.RecodingTold.{HasRoom, StopInReading, StopInWriting}
 use Rattle.ciborium_ll.specs.Sides.{sides}
+
+-- The length of the buffer through which bodies go, in bytes. A byte string of 65 bytes takes two chunks.
+abbrev pub buffer_size : ℕ
+buffer_size = 64
 
 -- ---- over any reader and writer
 
@@ -36,14 +41,15 @@ module _ {W F : Type 0} (sink : Writer W F) where
   FlushesSo old (Err (r.Read error)) new = ⊥
 
 module _ {R E W F : Type 0} (source : Reader R E) (sink : Writer W F) where
-  -- `recode` copied `count` elements to the writer, with this answer, by a new decoder over the reader and a buffer of
-  -- 64 bytes. The reader is as that decoder left it. After `Ok` for one element of `01 05`, it has `05` left.
+  -- `recode` copied `count` elements to the writer, with this answer, by a new decoder over the reader and through a
+  -- buffer of `buffer_size` bytes. The reader is as that decoder left it. After `Ok` for one element of `01 05`, it has
+  -- `05` left.
   pub record RecodesFrom (count : ℕ) (reader : R) (writer : W) (result : Result (Unit {0}) (RecodeError E F))
       (reader' : R) (writer' : W) : Type 0 where
     pub decoder : Decoder R
     pub fresh : IsFresh reader 0 decoder
     pub behind : Decoder R
-    pub recodes : Recodes source sink count 64 (sides decoder writer) result (sides behind writer')
+    pub recodes : Recodes source sink count buffer_size (sides decoder writer) result (sides behind writer')
     pub left : reader' ≡ reader_of behind
 
   -- All elements were copied, and then the writer was flushed, with this answer. For one element of `01 05`, `01` was
@@ -72,17 +78,11 @@ module _ {R E W F : Type 0} (source : Reader R E) (sink : Writer W F) where
     pub ahead : source.ahead reader ≡ Some due
     pub output : sink.written writer ≡ Some written
 
-  -- Both tell their bytes, the reader fails only if bytes are missing, the offset fits, and the writer has room. The
-  -- room covers the spelling of the elements if they are next, and otherwise all bytes due. For one element of
-  -- `18 17 05`, a room of 1 byte is enough.
+  -- A fresh decoder can read from the reader, and the writer has room for the copy. For one element of `18 17 05`, a
+  -- room of 1 byte is enough.
   pub record AreReady (count : ℕ) (reader : R) (writer : W) (due written : List ℕ) : Type 0 where
-    pub tell : TellBytes reader writer due written
-    pub steady : IsTrue (source.steady reader)
-    pub room : ℕ
-    pub room-told : sink.room writer ≡ Some room
-    pub enough : ((front : BeginsWithElements Any count due) × (length (spelling front.marks) ≤ room))
-        ⊎ (length due ≤ room)
-    pub fits : length due + 64 < 2 ^ 64
+    pub can_read : (decoder : Decoder R) → IsFresh reader 0 decoder → CanRead source buffer_size decoder due
+    pub can_write : CanWrite sink (HasRoom count due) writer written
 
   -- ---- the copy
 
@@ -112,7 +112,7 @@ module _ {R E W F : Type 0} (source : Reader R E) (sink : Writer W F) where
   -- A write failed. The elements or a part of them were read, and a beginning of their spelling was written. For one
   -- element of `43 01 02 03 05`, `43 01` may be written and `05` left.
   pub record FailsToWrite (count : ℕ) (due written : List ℕ) (reader : R) (writer : W) : Type 0 where
-    pub stop : StopInWriting count 64 due
+    pub stop : StopInWriting count buffer_size due
     pub output : sink.written writer ≡ Some (written ++ stop.written)
     pub left : source.ahead reader ≡ Some stop.rest
 
@@ -153,7 +153,7 @@ module _ {R E W F : Type 0} (source : Reader R E) (sink : Writer W F) where
       StopsAtFault count due written (Syntax place) reader writer
   NormalisesAnyhow count due written (Err (r.Read e.TooLong)) reader writer =
       (stops : FailsToRead count due written writer)
-      × (2 ^ 64 ≤ length stops.stop.before + stops.stop.consumed + 64)
+      × (offset_limit ≤ length stops.stop.before + stops.stop.consumed + buffer_size)
   NormalisesAnyhow count due written (Err (r.Read e.Waiting)) reader writer = ⊥
   NormalisesAnyhow count due written (Err (r.Write fault)) reader writer =
       FailsToWrite count due written reader writer ⊎ FailsToFlush count due written reader writer

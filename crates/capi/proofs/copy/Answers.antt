@@ -6,7 +6,7 @@ use Rattle.capi.proofs.CountLaws.{counts_said}
 use Rattle.ciborium_ll_recode.proofs.RecodeReadyLaws.{recode_exactly, recode_told}
 use Rattle.ciborium_ll.specs.Sides.{sides}
 use Rattle.ciborium_ll.specs.Transfer.{Target}
-use Rattle.capi.specs.Copying.{HasRoom}
+use Rattle.ciborium_ll.specs.RecodingTold.{HasRoom}
 use Rattle.capi.proofs.copy.Goals as goal
 
 pub returns : goal.returns

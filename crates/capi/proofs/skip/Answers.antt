@@ -1,6 +1,7 @@
 use Rattle.std.proofs.Common.{refl, arith}
 use Rattle.ciborium_ll_decoder.specs.Decoding.{spelling_of}
-use Rattle.capi.proofs.SkipLaws.{ready_to_skip, skip_exactly, skip_said}
+use Rattle.ciborium_ll_decoder.proofs.PremiseLaws.{fresh_can_read}
+use Rattle.capi.proofs.SkipLaws.{skip_exactly, skip_said}
 use Rattle.capi.proofs.skip.Goals as goal
 
 pub returns : goal.returns
@@ -13,11 +14,11 @@ returns c =
     record {
       skipped = skip_said _ c.args.depth due old new skipped c.say.new.self stop.result.0 stop.result.1 c.offset.result
           (c.skip_item-skipped.ensures.told due
-          (ready_to_skip _ 1024 c.new.result old due c.from-decoder.ensures refl c.new.ensures.ahead
+          (fresh_can_read _ 1024 c.new.result old due c.from-decoder.ensures refl c.new.ensures.ahead
           (omega arith) (omega arith)))
           c.from-decoder.ensures.mode c.from-decoder.ensures.offset stop.ensures.answer stop.ensures.place c.offset.ensures.value c.say.ensures;
       exactly = skip_exactly (spelling_of old) c.args.depth due skipped stop.result.0 stop.ensures.answer
           (c.skip_item-skipped.ensures.exactly due
-          (ready_to_skip _ 1024 c.new.result old due c.from-decoder.ensures refl c.new.ensures.ahead
+          (fresh_can_read _ 1024 c.new.result old due c.from-decoder.ensures refl c.new.ensures.ahead
           (omega arith) (omega arith))) c.from-decoder.ensures.mode;
     }

@@ -1,5 +1,5 @@
 use Rattle.std.proofs.Common.{refl, arith}
-use Rattle.cbor_embedded.proofs.EmbeddedLaws.{ready}
+use Rattle.ciborium_ll_decoder.proofs.PremiseLaws.{fresh_can_read}
 use Rattle.cbor_diag.proofs.EmbeddedLaws.{all_read, item_fails, never_stops}
 use Rattle.cbor_diag.proofs.embedded.show_embedded.Goals as goal
 
@@ -8,9 +8,9 @@ unreachable-requires g c =
     let item = c.args.item.now in
     let old = c.from-decoder.result in
     let reads = rw c.in-Err-Read.field-0-is at c.in-Err-Read.ensures.reads in
-    never_stops _ c.args.depth item old (ready _ _ 64 c.new.result old item c.from-decoder.ensures refl c.new.ensures.ahead
-    (omega arith) (omega arith)) c.from-decoder.ensures.mode c.requires.item c.show_one.new.decoder c.in-Err-Read.field-0-0
-    reads.reads
+    never_stops _ c.args.depth item old (fresh_can_read _ 64 c.new.result old item c.from-decoder.ensures refl
+    c.new.ensures.ahead (omega arith) (omega arith)) c.from-decoder.ensures.mode c.requires.item
+    c.show_one.new.decoder c.in-Err-Read.field-0-0 reads.reads
 
 pub returns-in-Ok : goal.returns-in-Ok
 returns-in-Ok g c =
@@ -24,7 +24,7 @@ returns-in-Ok g c =
         rest = shown.rest;
         is_title = shown.is_title;
         shown = shown.shown;
-        is = all_read _ c.args.depth item old (ready _ _ 64 c.new.result old item c.from-decoder.ensures refl
+        is = all_read _ c.args.depth item old (fresh_can_read _ 64 c.new.result old item c.from-decoder.ensures refl
             c.new.ensures.ahead (omega arith) (omega arith)) c.from-decoder.ensures.mode c.requires.item
             c.show_one.new.decoder _ shown.passed c.in-Ok.ensures.reads.reads;
       },
@@ -36,5 +36,6 @@ returns-in-Err-Write g c =
     let item = c.args.item.now in
     let old = c.from-decoder.result in
     let stops = rw (c.in-Err-Write.field-0-is, c.in-Err-Write.fault-is) at c.in-Err-Write.ensures.shown in
-    item_fails _ _ _ _ item old c.show_one.new.decoder _ _ c.in-Err-Write.fault (ready _ _ 64 c.new.result old item
-    c.from-decoder.ensures refl c.new.ensures.ahead (omega arith) (omega arith)) stops
+    item_fails _ _ _ _ item old c.show_one.new.decoder _ _ c.in-Err-Write.fault
+    (fresh_can_read _ 64 c.new.result old item c.from-decoder.ensures refl c.new.ensures.ahead (omega arith)
+    (omega arith)) stops

@@ -66,8 +66,8 @@ returns-clause-exactly g c = λ due written are.
           let copied = rw w.in-Ok.is at copy in
           let all = rw w.in-Ok.is at c.recode-copied.ensures.copied.copied in
           let copies = copies_so R W c.args.count due written c.args.reader _ c.args.writer _ new _ fresh same copied in
-          let told = room_told R W c.args.count due written c.args.reader _ _ _ new _ fresh same is_ready.room
-          is_ready.room-told all in
+          let told = room_told R W c.args.count due written c.args.reader _ _ _ new _ fresh same
+          is_ready.can_write.room is_ready.can_write.room-told all in
           rw (w.writer-is, w.outcome-is) (flush_told R W c.args.count due written _ _ _
           (rw c.into_inner-writer.ensures copies) (rw c.into_inner-writer.ensures told) w.flushed-outcome.result
           w.flushed-outcome.ensures)

@@ -7,18 +7,20 @@ returns-in-Err-clause-none c = λ front.
     let due = c.args.bytes.now in
     let fresh = c.strict-decoder.ensures in
     let exact = c.recode.ensures.front Shortest due [] (record {
-      steady = search rules;
-      told = record {
-        mode = search rules;
-        due-told = search rules;
-        written-told = search rules;
+      mode = search rules;
+      can_read = record {
         none_waits = λ on. fresh.none_waits;
+        steady = search rules;
+        told = search rules;
+        fits-title = omega (arith, fresh.offset);
+        fits-chunk = omega (arith, fresh.offset);
       };
-      room = length due;
-      room-told = search rules;
-      enough = inr (omega arith);
-      fits-title = omega (arith, fresh.offset);
-      fits-chunk = omega (arith, fresh.offset);
+      can_write = record {
+        told = search rules;
+        room = length due;
+        room-told = search rules;
+        enough = inr (omega arith);
+      };
     }) in
     let held = rw c.in-Err.is at (exact.1 front) in
     absurd cc
