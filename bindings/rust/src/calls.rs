@@ -3,8 +3,8 @@
 //! slice or of a value. No pointer that is written overlaps another one.
 
 use crate::sys::{
-    self, cll_body, cll_checker, cll_copier, cll_header, cll_item, cll_item_copier, cll_items,
-    cll_report, cll_span, cll_title,
+    self, cll_body, cll_checker, cll_copier, cll_event, cll_header, cll_item, cll_item_copier,
+    cll_items, cll_parser, cll_report, cll_span, cll_title,
 };
 use crate::{Error, Header};
 use core::mem::MaybeUninit;
@@ -437,6 +437,32 @@ fn end_by<T>(call: EndCall<T>, kept: &T) -> (u32, cll_report) {
 /// Says that no more bytes come to a checker. Returns the answer and the report.
 pub(crate) fn end(checker: &cll_checker) -> (u32, cll_report) {
     end_by(sys::cll_checker_end, checker)
+}
+
+/// Returns a parser to which no byte came.
+pub(crate) fn new_parser(strict: bool) -> cll_parser {
+    let mut parser = cll_parser { words: [0; 7] };
+    let init = if strict {
+        sys::cll_parser_init_strict
+    } else {
+        sys::cll_parser_init
+    };
+    // SAFETY: as this file says. The answer is always that it is set up.
+    let _ = unsafe { init(&mut parser) };
+    parser
+}
+
+/// Gives a parser the next bytes. Returns the answer and the event.
+pub(crate) fn push_parser(parser: &mut cll_parser, bytes: &[u8]) -> (u32, cll_event) {
+    let mut event = cll_event::default();
+    // SAFETY: as this file says.
+    let answer = unsafe { sys::cll_parser_push(parser, bytes.as_ptr(), bytes.len(), &mut event) };
+    (answer, event)
+}
+
+/// Says that no more bytes come to a parser. Returns the answer and the report.
+pub(crate) fn end_parser(parser: &cll_parser) -> (u32, cll_report) {
+    end_by(sys::cll_parser_end, parser)
 }
 
 /// A call that gives a copier the next bytes, and room for their spelling.

@@ -38,6 +38,7 @@ mod error;
 mod header;
 mod headers;
 mod item;
+mod parser;
 #[cfg(feature = "std")]
 pub mod stream;
 pub mod sys;
@@ -56,6 +57,7 @@ pub use error::Error;
 pub use header::{Float, Header};
 pub use headers::{headers, Headers, Title};
 pub use item::{Entries, Item, Items};
+pub use parser::{Event, Events, Parser};
 
 /// The programs of the page on this crate.
 #[cfg(all(doctest, feature = "std"))]
