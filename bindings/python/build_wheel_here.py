@@ -22,9 +22,9 @@ import zipfile
 from pathlib import Path
 
 HERE = Path(__file__).resolve().parent
-FILES = ("__init__.py", "__init__.pyi", "_item.py", "py.typed")
+FILES = ("__init__.py", "__init__.pyi", "_item.py", "_parser.py", "py.typed")
 SOURCES = ("README.md", "pyproject.toml", "build_wheel_here.py", *(f"ciborium_ll/{name}" for name in FILES),
-           "tests/test_item.py", "tests/test_package.py", "tests/test_rows.py")
+           "tests/test_item.py", "tests/test_package.py", "tests/test_parser.py", "tests/test_rows.py")
 NAME = "libciborium_ll.so"
 
 # The numbers of kinds of sections, and of the kind of an entry of the dynamic section, in the format ELF.

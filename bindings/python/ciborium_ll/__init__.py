@@ -15,16 +15,17 @@ import enum
 import itertools
 import mmap
 import os
-from typing import Any, ClassVar, Dict, Iterator, NamedTuple, Optional, Tuple, Type, Union
+from typing import Any, ClassVar, Dict, Iterable, Iterator, NamedTuple, Optional, Tuple, Type, Union
 
 __all__ = ["Kind", "Header", "Title", "Recoded", "Error", "ShortError", "CborSyntaxError", "RoomError", "BreakDueError",
            "TooDeepError", "ArgumentError", "NotShortestError", "IndefiniteError", "KeyOrderError", "DuplicateKeyError",
            "Short", "Syntax", "Room", "BreakDue", "TooDeep", "Argument", "Order", "Progress", "Checker", "Copied",
-           "Copier", "ItemCopier", "Item", "pull", "push", "recode", "strict", "skip", "deterministic", "canonical",
-           "utf8", "headers"]
+           "Copier", "ItemCopier", "Item", "Parser", "Began", "Closed", "Part", "pull", "push", "recode", "strict",
+           "skip", "deterministic", "canonical", "utf8", "headers"]
 
 # An object with the buffer protocol. Python has a name for it from 3.12 on.
 _Bytes = getattr(collections.abc, "Buffer", Union[bytes, bytearray, memoryview, mmap.mmap, array.array])
+_Pieces = Iterable[_Bytes]
 
 # The versions of the library that have the calls of this package begin with this.
 _INTERFACE = "0.1"
@@ -751,5 +752,6 @@ class ItemCopier(Copier):
         _check(init(self._kept, _held(depth, 32, "the depth")), _Report())
 
 
-# The module takes what stands above.
+# The modules take what stands above.
 from ._item import Item  # noqa: E402
+from ._parser import Began, Closed, Parser, Part  # noqa: E402

@@ -1,6 +1,6 @@
 # SPDX-License-Identifier: Apache-2.0
 from enum import IntEnum
-from typing import Any, Dict, Iterator, NamedTuple, Optional, Tuple, TypeVar, Union
+from typing import Any, Dict, Iterable, Iterator, NamedTuple, Optional, Tuple, TypeVar, Union
 
 # Any object with the buffer protocol: `bytes`, `bytearray`, `memoryview`, `mmap`, `array` and others.
 from _typeshed import ReadableBuffer as _Bytes
@@ -8,8 +8,8 @@ from _typeshed import ReadableBuffer as _Bytes
 __all__ = ["Kind", "Header", "Title", "Recoded", "Error", "ShortError", "CborSyntaxError", "RoomError", "BreakDueError",
            "TooDeepError", "ArgumentError", "NotShortestError", "IndefiniteError", "KeyOrderError", "DuplicateKeyError",
            "Short", "Syntax", "Room", "BreakDue", "TooDeep", "Argument", "Order", "Progress", "Checker", "Copied",
-           "Copier", "ItemCopier", "Item", "pull", "push", "recode", "strict", "skip", "deterministic", "canonical",
-           "utf8", "headers"]
+           "Copier", "ItemCopier", "Item", "Parser", "Began", "Closed", "Part", "pull", "push", "recode", "strict",
+           "skip", "deterministic", "canonical", "utf8", "headers"]
 
 __version__: str
 
@@ -138,6 +138,28 @@ class Item:
     def __bytes__(self) -> bytes: ...
     def __eq__(self, other: object) -> bool: ...
     def __hash__(self) -> int: ...
+
+class Began(NamedTuple):
+    header: Header
+    place: int
+
+class Closed(NamedTuple):
+    place: int
+
+class Part(NamedTuple):
+    data: Union[bytes, str]
+    left: int
+
+class Parser:
+    consumed: int
+    def __init__(self, *, shortest: bool = False) -> None: ...
+    def push(self, data: _Bytes, offset: int = 0) -> Iterator[Union[Began, Closed, Part]]: ...
+    def events(self, pieces: Iterable[_Bytes]) -> Iterator[Union[Began, Closed, Part]]: ...
+    def end(self) -> None: ...
+    @property
+    def between(self) -> bool: ...
+    def __copy__(self: _Self) -> _Self: ...
+    def __deepcopy__(self: _Self, memo: Dict[int, Any]) -> _Self: ...
 
 def pull(data: _Bytes, offset: int = 0) -> Title: ...
 def push(header: Header, width: Optional[int] = None) -> bytes: ...
