@@ -82,6 +82,50 @@ static uint32_t fed(char *text, const uint8_t *data, size_t len, uint32_t depth,
     return answer;
 }
 
+/* Shows a title, or a part of a body, which follows what is there. */
+static void add_event(char *text, const cll_event *event, const uint8_t *taken)
+{
+    const char *between = *text == 0 ? "" : ",", *last = strrchr(text, ',');
+    char *end = text + strlen(text), value[24];
+    sprintf(value, "%" PRIu64, event->header.value);
+    if (event->kind == CLL_EVENT_HEADER) {
+        sprintf(end, "%s%s/%s/%" PRIu64, between, kind_names[event->header.kind],
+            event->header.indefinite ? "*" : value, event->place);
+    } else if (event->kind == CLL_EVENT_CLOSE) {
+        sprintf(end, "%sclose/%" PRIu64, between, event->place);
+    } else {
+        if (strchr(last == NULL ? text : last, '=') == NULL)
+            end += sprintf(end, "=");
+        shown(end, event->carried, event->carried_len);
+        shown(end + strlen(end), taken, event->consumed);
+    }
+}
+
+/* Pushes bytes to a parser in pieces of some size, and shows the titles, the bodies and how many bytes are due. */
+static uint32_t parsed(char *text, const uint8_t *data, size_t len, size_t size, int strict, cll_report *report)
+{
+    cll_parser parser;
+    size_t taken = 0;
+    uint32_t answer = strict ? cll_parser_init_strict(&parser) : cll_parser_init(&parser);
+    while (taken < len && answer <= CLL_SHORT) {
+        const size_t end = (taken / size + 1) * size;
+        cll_event event;
+        answer = cll_parser_push(&parser, data + taken, (end < len ? end : len) - taken, &event);
+        if (answer == CLL_OK)
+            add_event(text, &event, data + taken);
+        taken += (size_t)event.consumed;
+    }
+    if (answer == CLL_SYNTAX && cll_parser_end(&parser, report) != answer)
+        strcpy(text, "another end");
+    answer = cll_parser_end(&parser, report);
+    if (answer == CLL_SHORT)
+        sprintf(text + strlen(text), "%sdue/%" PRIu64, *text == 0 ? "" : ",", report->place);
+    if (*text == 0)
+        strcpy(text, "-");
+    report->consumed = taken;
+    return answer;
+}
+
 /* Gives a copier the bytes one by one, with room for one each, and shows the bytes that it wrote. */
 static uint32_t copied(char *text, const uint8_t *data, size_t len, uint64_t count, int strict, cll_report *report)
 {
@@ -228,6 +272,9 @@ static int holds(const struct row *row)
         answer = cll_utf8(data, row->len, &report);
     } else if (strcmp(row->call, "feed") == 0 || strcmp(row->call, "feed_strict") == 0) {
         answer = fed(text, data, row->len, (uint32_t)row->number, strcmp(row->call, "feed") != 0, &report);
+        made = text;
+    } else if (strncmp(row->call, "events", 6) == 0) {
+        answer = parsed(text, data, row->len, (size_t)row->number, strcmp(row->call, "events") != 0, &report);
         made = text;
     } else if (strcmp(row->call, "copy") == 0 || strcmp(row->call, "copy_strict") == 0) {
         answer = copied(text, data, row->len, row->number, strcmp(row->call, "copy") != 0, &report);

@@ -5,7 +5,9 @@
  */
 #include <ciborium_ll.hpp>
 #include <ciborium_ll_item.hpp>
+#include <ciborium_ll_parser.hpp>
 
+#include <algorithm>
 #include <array>
 #include <cstring>
 #include <string>
@@ -137,6 +139,43 @@ bool copies(const row &row, const std::vector<std::uint8_t> &data)
 /* Shows the bytes of a body in hexadecimal. */
 std::string digits(cll::input bytes) { return bytes.empty() ? "" : shown(bytes); }
 
+/* Shows a title, or a part of a body, which follows what is there. */
+void add(std::string &made, const cll::event &found)
+{
+    const char *const between = made.empty() ? "" : ",";
+    if (found.kind() == cll::event_kind::header) {
+        made += between + named(found.header()) + '/' + std::to_string(found.place());
+    } else if (found.kind() == cll::event_kind::close) {
+        made += between + ("close/" + std::to_string(found.place()));
+    } else {
+        const auto last = made.rfind(',');
+        const bool is_first = made.find('=', last == std::string::npos ? 0 : last) == std::string::npos;
+        made += (is_first ? "=" : "") + digits(found.carried()) + digits(found.taken());
+    }
+}
+
+/* Pushes the bytes to a parser, in pieces of some size. */
+bool parses(const row &row, const std::vector<std::uint8_t> &data)
+{
+    auto parser = std::string(row.call) == "events_strict" ? cll::parser::strict() : cll::parser();
+    const auto size = static_cast<std::size_t>(row.number);
+    std::string made, name = "ok";
+    for (std::size_t at = 0; at < data.size() && name == "ok"; at += size)
+        for (const auto &found : parser.push({data.data() + at, std::min(size, data.size() - at)})) {
+            if (found)
+                add(made, *found);
+            else
+                name = found.fault().name();
+        }
+    const auto end = parser.end();
+    if (end && end->code == cll::answer::too_short) {
+        name = end->name();
+        made += (made.empty() ? "due/" : ",due/") + std::to_string(end->due);
+    }
+    return name == answer_names[row.answer] && parser.taken() == row.consumed && !end == (name == "ok")
+        && (!end || (end->name() == name && end->place == row.place)) && (made.empty() ? "-" : made) == row.made;
+}
+
 /* Shows an item with all that it contains, by views of its parts. */
 std::string viewed(const cll::item &item)
 {
@@ -206,6 +245,8 @@ int holds(const row *row)
         return feeds(*row, data);
     if (call == "copy" || call == "copy_strict")
         return copies(*row, data);
+    if (call == "events" || call == "events_strict")
+        return parses(*row, data);
     if (call == "item" || call == "get" || call == "get_text" || call == "get_int")
         return views(*row, data);
     const auto depth = static_cast<std::uint32_t>(row->number);
@@ -390,6 +431,34 @@ bool goes_on()
         && full.spelled == 1 && rest && rest->written == 2 && shown({out.data(), 3}) == "05417a";
 }
 
+/* A parser gives a part that carries a byte of an earlier piece. A copy of it goes on by itself, and a fault stays. */
+bool parses_on()
+{
+    cll::parser parser;
+    std::string text;
+    for (const auto &found : parser.push("\x19\x00\x05\x62\xc3"sv))
+        if (!found || found->kind() != cll::event_kind::header)
+            return false;
+    auto copy = parser;
+    for (const auto &found : parser.push("\xa9\x07"sv)) {
+        if (found && found->kind() == cll::event_kind::text) {
+            if (found->carried().size() != 1 || found->left() != 0)
+                return false;
+            found->append_to(text);
+        }
+    }
+    for (int turn = 0; turn < 2; turn++)
+        for (const auto &found : copy.push("\x28"sv))
+            if (found || found.fault().code != cll::answer::syntax || found.fault().place != 3)
+                return false;
+    /* A loop that ends early leaves the rest of the piece. */
+    for (const auto &found : parser.push("\x01\x02"sv))
+        if (found && found->header() == cll::header{cll::kind::positive, 1})
+            break;
+    return text == "\xc3\xa9" && parser.taken() == 8 && !parser.end() && copy.taken() == 6
+        && copy.end()->code == cll::answer::syntax && cll::parser().push({}).begin() == cll::parser::events::iterator();
+}
+
 /* A reader goes over a map with a string and an array. A call that fails does not move it. */
 bool reads()
 {
@@ -527,7 +596,8 @@ bool spans()
 int main(int argc, char **argv)
 {
     if (argc != 2 || !has_values() || !goes_over() || !throws() || !goes_on() || !reads() || !joins() || !checks()
-        || !copies_on() || !copies_item() || !spans() || !goes_over_many() || !rewrites_items() || !views_parts())
+        || !copies_on() || !copies_item() || !spans() || !goes_over_many() || !rewrites_items() || !views_parts()
+        || !parses_on())
         return 2;
     return go_through(argv[1], holds);
 }

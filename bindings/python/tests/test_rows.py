@@ -122,6 +122,27 @@ def copied(count, data, shortest):
     return ("ok", taken, 0, out.hex() or "-") if got.ended else ("short", taken, taken, out.hex() or "-")
 
 
+def parsed(size, data, shortest):
+    """Pushes the bytes to a parser in pieces of some size, and returns its answer as the table shows it."""
+    parser, made = ciborium_ll.Parser(shortest=shortest), []
+    try:
+        for event in parser.events(data[at:at + size] for at in range(0, len(data), size)):
+            if isinstance(event, ciborium_ll.Began):
+                made.append(f"{told(event.header)}/{event.place}")
+            elif isinstance(event, ciborium_ll.Closed):
+                made.append(f"close/{event.place}")
+            else:
+                part = event.data.encode() if isinstance(event.data, str) else event.data
+                made[-1] += ("" if "=" in made[-1] else "=") + part.hex()
+    except ciborium_ll.Error as error:
+        assert not parser.between
+        if error.name == "short":
+            made.append(f"due/{error.due}")
+        return error.name, parser.consumed, error.place, ",".join(made) or "-"
+    assert parser.between
+    return "ok", parser.consumed, 0, ",".join(made) or "-"
+
+
 class Rows(unittest.TestCase):
     def test_rows(self):
         rows = [line.split() for line in TABLE.read_text().splitlines() if line and not line.startswith("#")]
@@ -142,6 +163,11 @@ class Rows(unittest.TestCase):
                     continue
                 if call == "headers":
                     got = listed(b"" if given == "-" else bytes.fromhex(given))
+                    self.assertEqual(got, (answer, int(consumed), int(place), want))
+                    continue
+                if call in ("events", "events_strict"):
+                    data = b"" if given == "-" else bytes.fromhex(given)
+                    got = parsed(int(number), data, call == "events_strict")
                     self.assertEqual(got, (answer, int(consumed), int(place), want))
                     continue
                 if call in ("copy", "copy_strict"):

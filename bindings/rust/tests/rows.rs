@@ -3,7 +3,7 @@
 
 use ciborium_ll_proved::{
     canonical_into, deterministic, headers, recode, skip_item, strict_len, utf8, Checker, Copier,
-    Copying, Decoder, Encoder, Error, Float, Header, Item, Order, Progress, Span,
+    Copying, Decoder, Encoder, Error, Event, Float, Header, Item, Order, Parser, Progress, Span,
 };
 
 const TABLE: &str = include_str!("../../tests/rows");
@@ -284,6 +284,64 @@ fn copied(mut copier: Copier, data: &[u8]) -> String {
     }
 }
 
+/// Shows a title, or a part of a body, which follows what is there.
+fn add_event(made: &mut String, event: Event<'_>) {
+    let between = if made.is_empty() { "" } else { "," };
+    match event {
+        Event::Header { header, place } => *made += &format!("{between}{}/{place}", told(header)),
+        Event::Close { place } => *made += &format!("{between}close/{place}"),
+        Event::Bytes { part, .. } => add_part(made, part),
+        Event::Text { first, rest, .. } => {
+            let part: String = first.into_iter().chain(rest.chars()).collect();
+            add_part(made, part.as_bytes());
+        }
+    }
+}
+
+/// Shows a part of a body. It is the first one if the last title has none.
+fn add_part(made: &mut String, part: &[u8]) {
+    let is_first = made
+        .rsplit(',')
+        .next()
+        .map_or(false, |last| !last.contains('='));
+    *made += if is_first { "=" } else { "" };
+    *made += &hex_of(part);
+}
+
+/// Pushes the bytes to a parser in pieces of some size. Returns its answer as the table shows it.
+fn parsed(size: usize, data: &[u8], strict: bool) -> String {
+    let mut parser = if strict {
+        Parser::strict()
+    } else {
+        Parser::new()
+    };
+    let mut made = String::new();
+    let mut fault = None;
+    for piece in data.chunks(size) {
+        for event in parser.push(piece) {
+            match event {
+                Ok(event) => add_event(&mut made, event),
+                Err(error) => fault = Some(error),
+            }
+        }
+    }
+    let (end, taken) = (parser.end(), parser.taken());
+    assert_eq!(parser.is_between(), end.is_ok());
+    if let Some(error) = fault {
+        assert_eq!(end, Err(error));
+    }
+    let (name, place) = match end {
+        Ok(()) => ("ok", 0),
+        Err(error) => (error.name(), error.place().unwrap_or(0)),
+    };
+    if let Err(Error::Short { due, .. }) = end {
+        let between = if made.is_empty() { "" } else { "," };
+        made += &format!("{between}due/{due}");
+    }
+    let made = if made.is_empty() { "-" } else { &made };
+    format!("{name} {taken} {place} {made}")
+}
+
 #[test]
 fn rows_hold() {
     let rows = TABLE
@@ -313,6 +371,12 @@ fn rows_hold() {
         }
         if call == "headers" {
             assert_eq!(listed(&bytes_of(given)), words[3..].join(" "), "{row}");
+            count += 1;
+            continue;
+        }
+        if call == "events" || call == "events_strict" {
+            let got = parsed(number as usize, &bytes_of(given), call == "events_strict");
+            assert_eq!(got, words[3..].join(" "), "{row}");
             count += 1;
             continue;
         }
