@@ -1,7 +1,6 @@
 -- The bytes that begin a title that is the shortest of its header.
-use Rattle.std.proofs.Common.{◌≡◌, ℕ, zero, suc, ◌-◌, ◌<◌, ◌≤◌, ◌%◌, ◌⊎◌, inl, inr, true, false, List, [], ◌∷◌}
-use Rattle.std.proofs.Common.{◌++◌, length, get_or, refl, ap, subst, arith, length-append, slice_index, Option, Some}
-use Rattle.std.proofs.Common.{None, IfSome, IfNone}
+use Rattle.std.proofs.Common.{◌≡◌, ℕ, zero, suc, ◌-◌, ◌<◌, ◌≤◌, ◌%◌, ◌⊎◌, inl, inr, true, List, [], ◌∷◌}
+use Rattle.std.proofs.Common.{◌++◌, length, get_or, refl, ap, arith, length-append, slice_index}
 use Rattle.std.proofs.Math.ListN.{replicate}
 use Rattle.std.proofs.lemmas.Bool.{false_from_ne_true}
 use Rattle.std.proofs.lemmas.Bool.Decides.{nat_tests}
@@ -10,14 +9,10 @@ use Rattle.std.proofs.lemmas.List.{length-replicate, get_or_append_left, get_or-
 use Rattle.ciborium_ll_grammar.specs.declared.spelling.Spelling.{Spelling}
 use Rattle.ciborium_ll_grammar.specs.declared.spelling.Spelling.TheVariants.{Any, Shortest}
 use Rattle.ciborium_ll_grammar.specs.declared.hdr.Header.{Header}
-use Rattle.ciborium_ll_grammar.specs.declared.hdr.Minor.{Minor}
 use Rattle.ciborium_ll_grammar.specs.Title.{Major, major_code, first_byte, Size, size_limit, affix_len, numbered_title}
-use Rattle.ciborium_ll_grammar.specs.Title.{IsTitle, numbered, alone, IsStrictTitle, AreBytes, BeginsRefused}
-use Rattle.ciborium_ll_grammar.specs.Title.{IsNeverOpen}
-use Rattle.ciborium_ll_grammar.specs.Parts.{IsMinor, minor_code, parts_bytes, refused_when_strict}
-use Rattle.ciborium_ll_grammar.specs.Items.{IsTakenTitle}
-use Rattle.ciborium_ll_grammar.proofs.TitleLaws.{one_title, title_refused}
-use Rattle.ciborium_ll_grammar.proofs.LongerLaws.{minor_as, taken, refused, parts_header, parts_taken, parts_refused}
+use Rattle.ciborium_ll_grammar.specs.Title.{IsTitle, numbered, alone, IsStrictTitle, AreBytes}
+use Rattle.ciborium_ll_grammar.specs.Parts.{refused_when_strict}
+use Rattle.ciborium_ll_grammar.proofs.LongerLaws.{minor_as, taken, refused}
 use Rattle.ciborium_ll_grammar.proofs.AffixLaws.{title_or_refused, refused_affix, cut_begins, AreBytes-append}
 use Rattle.cbor_parser.specs.Longer.{BeginsLonger}
 use Rattle.cbor_parser.specs.Titles.{NoneTaken, SomeTaken}

@@ -1,6 +1,6 @@
 //! A parser as plain numbers.
 
-ghost use Rattle.std.specs.Prelude.{◌≡◌, ◌≤◌, length, true, Some};
+ghost use Rattle.std.specs.Prelude.{◌≡◌, true, Some};
 ghost use Rattle.ciborium_ll_text.specs.Text.{IsStuck};
 ghost use Rattle.cbor_parser.specs.Phases.{carried_of, has_left, most_front};
 ghost use Rattle.cbor_parser.specs.Saving.{IsState, phase_in, spelling_in};
