@@ -6,6 +6,7 @@ ghost use Rattle.cbor_parser.specs.Events.{title_event};
 use crate::strings::Within;
 use ciborium_ll_grammar::few::Few;
 use ciborium_ll_grammar::hdr::Header;
+use std::fmt;
 
 /// What a parser found in the bytes that it took.
 #[derive(Drop)]
@@ -44,6 +45,28 @@ pub enum Event {
     TooLong,
 }
 
+impl fmt::Debug for Event {
+    fn fmt<W: fmt::Write>(&self, f: &mut fmt::Formatter<W>) -> fmt::Result {
+        match self {
+            Event::Need(due) => f.debug_tuple("Need").field(due).finish(),
+            Event::Header { header, offset } => f
+                .debug_struct("Header")
+                .field("header", header)
+                .field("offset", offset)
+                .finish(),
+            Event::Close { offset } => f.debug_struct("Close").field("offset", offset).finish(),
+            Event::Body { left } => f.debug_struct("Body").field("left", left).finish(),
+            Event::Text { carried, left } => f
+                .debug_struct("Text")
+                .field("carried", &carried.bytes())
+                .field("left", left)
+                .finish(),
+            Event::Fault(place) => f.debug_tuple("Fault").field(place).finish(),
+            Event::TooLong => f.write_str("TooLong"),
+        }
+    }
+}
+
 /// Returns the event of a title of this header at `offset`, within these strings.
 pub(crate) fn title_event(within: Within, header: Header, offset: usize) -> Event
     ensures { result ≡ title_event within header offset }
@@ -55,7 +78,7 @@ pub(crate) fn title_event(within: Within, header: Header, offset: usize) -> Even
 }
 
 /// The answer to a piece.
-#[derive(Drop)]
+#[derive(Debug, Drop)]
 pub struct Pushed {
     /// How many bytes of the piece the parser took.
     pub taken: usize,

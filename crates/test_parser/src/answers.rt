@@ -70,6 +70,54 @@ fn pieces(rt: HostRuntime) {
     holds(&rt, !parser.is_between(), "a fault is no end");
 }
 
+// Three pieces, and what the answer to the last one shows.
+static SHOWN: [([&[u8]; 3], &str); 6] = [
+    ([&[], &[], &[]], "Pushed { taken: 0, event: Need(1) }"),
+    (
+        [&[], &[], &[0x82]],
+        "Pushed { taken: 1, event: Header { header: Array(Some(2)), offset: 0 } }",
+    ),
+    (
+        [&[], &[0x5f], &[0xff]],
+        "Pushed { taken: 1, event: Close { offset: 1 } }",
+    ),
+    (
+        [&[], &[0x42], &[0x05]],
+        "Pushed { taken: 1, event: Body { left: 1 } }",
+    ),
+    (
+        [&[0x62], &[0xc3], &[0xa4]],
+        "Pushed { taken: 1, event: Text { carried: [195], left: 0 } }",
+    ),
+    ([&[], &[], &[0x1c]], "Pushed { taken: 1, event: Fault(0) }"),
+];
+
+// The answer to the last of three pieces, as it shows itself.
+fn shown(alloc: Global, pieces: &[&[u8]; 3]) -> Result<String, AllocError> {
+    let mut text = String::new(alloc);
+    let mut parser = Parser::new();
+    let _ = parser.push(pieces[0]);
+    let _ = parser.push(pieces[1]);
+    let pushed = parser.push(pieces[2]);
+    write!(&mut text, "{pushed:?}")?;
+    Ok(text)
+}
+
+// Whether it shows itself so.
+fn is_shown(alloc: Global, pieces: &[&[u8]; 3], want: &str) -> bool {
+    match shown(alloc, pieces) {
+        Ok(text) => text.as_str() == want,
+        Err(_) => false,
+    }
+}
+
+#[test]
+fn answers_show_themselves(rt: HostRuntime) {
+    for (pieces, want) in &SHOWN {
+        holds(&rt, is_shown(rt.alloc(), pieces, want), want);
+    }
+}
+
 #[test]
 fn breaks(rt: HostRuntime) {
     let mut parser = Parser::new();
