@@ -21,6 +21,11 @@ use Rattle.cbor_deterministic.specs.Refusals.{small_simple}
 
 -- ---- preferred titles
 
+-- A title that fails whatever follows it fails in the bytes that begin with it.
+pub fails_front : (bytes title rest : List ℕ) (why : Why) → bytes ≡ title ++ rest
+    → ((more : List ℕ) → FailsTitle (title ++ more) why) → FailsTitle bytes why
+fails_front bytes title rest why whole fails = subst (λ (z : List ℕ). FailsTitle z why) (sym whole) (fails rest)
+
 -- No preferred title begins another one, and each has one header.
 pub one_preferred : (t t' v v' : List ℕ) (x x' : Header) → IsPreferredTitle t x → IsPreferredTitle t' x'
     → t ++ v ≡ t' ++ v' → Same t t' x x' v v'

@@ -13,6 +13,7 @@ use ciborium_ll_grammar::titles::{split_title, title_of};
 
 /// Returns the header of the title at the start, and the rest.
 #[inline(always)]
+#[tactic(auto, using(crate::proofs::TitleRuns::fails_front))]
 pub(crate) fn next_preferred(bytes: &[u8]) -> Result<(Header, &[u8]), Why>
     ensures { MatchResult result (λ found. InFront (λ title. IsPreferredTitle title found.0) bytes.now found.1.now)
         (λ why. FailsTitle bytes.now why) }
