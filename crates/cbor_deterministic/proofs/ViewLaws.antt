@@ -414,6 +414,14 @@ module _ {ord : Order} where
   same_header e w rest x y o b =
       (one_preferred o.title b.title rest b.contents x y o.is_title b.is_title (sym o.whole ∙ b.whole)).1
 
+  -- An item with the title of a map has a level for its pairs, and these are checked.
+  pub opened_level : (e n : ℕ) (w rest : List ℕ) → Opens ord e w (h.Map (Some n)) rest → 0 < e
+  opened_level e n w rest o = map_level e n rest o.completes
+
+  pub opened_pairs : (e n : ℕ) (w rest : List ℕ) → Opens ord e w (h.Map (Some n)) rest
+      → ∥ HasPairs ord (e - 1) n rest ∥₁
+  opened_pairs e n w rest o = map_checked e n rest o.completes
+
   pub bytes_header : (e : ℕ) (w rest body : List ℕ) (x : Header) → Opens ord e w x rest → IsBytesOf w body
       → x ≡ h.Bytes (Some (length body))
   bytes_header e w rest body x o b =

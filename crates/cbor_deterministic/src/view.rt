@@ -259,7 +259,21 @@ impl<'a> Item<'a> {
         }
     }
 
+    /// Returns how many pairs a map has, and the bytes of them.
+    fn pairs(&self) -> Option<(usize, &'a [u8])>
+        ensures { MatchOption result ((count : ℕ) → IsOpenedBy (item_bytes self.now) (Header.Map (Some count)) → ⊥)
+            (λ found. Opens (item_order self.now) (item_depth self.now) (item_bytes self.now)
+            (Header.Map (Some found.0)) found.1.now) }
+    {
+        let (header, contents) = self.open();
+        match map_count(header) {
+            Some(count) => Some((count, contents)),
+            None => None,
+        }
+    }
+
     /// Returns the pairs of a map, in the order of their keys.
+    #[tactic(auto, using(crate::proofs::ViewLaws::opened_level, crate::proofs::ViewLaws::opened_pairs))]
     pub fn entries(&self) -> Option<Entries<'a>>
         ensures { MatchOption result ((count : ℕ) → IsOpenedBy (item_bytes self.now) (Header.Map (Some count)) → ⊥)
             (λ entries. Opens (item_order self.now) (item_depth self.now) (item_bytes self.now)
@@ -267,9 +281,8 @@ impl<'a> Item<'a> {
             × (item_depth self.now ≡ entries_depth entries + 1)
             × (entries_order entries ≡ item_order self.now)) }
     {
-        let (header, contents) = self.open();
-        match map_count(header) {
-            Some(count) => Some(Entries {
+        match self.pairs() {
+            Some((count, contents)) => Some(Entries {
                 rest: contents,
                 due: count,
                 depth: self.depth - 1,
