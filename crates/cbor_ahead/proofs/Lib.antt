@@ -1,0 +1,2 @@
+pub mod GroupLaws
+pub mod PassLaws

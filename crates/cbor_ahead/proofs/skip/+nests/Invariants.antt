@@ -1,0 +1,22 @@
+use Rattle.std.proofs.Common.{◌≡◌, ◌+◌, ◌*◌, ℕ}
+use Rattle.cbor_skip.specs.Skipping.{ReadsCounted}
+use Rattle.ciborium_ll_streams.specs.contracts.buffered.BufferedReaderRead.TheImpl.{ghosts}
+use Rattle.cbor_ahead.proofs.skip.+nests.Given as goal
+
+-- The contents of a nest are in one nest more.
+abbrev pub decreases-skip_items : goal.decreases-skip_items
+decreases-skip_items g l = 2 * l.nests + 1
+
+abbrev pub decreases-skip_one : goal.decreases-skip_one
+decreases-skip_one g l = 2 * l.nests
+
+abbrev pub invariant-skip_items-items : goal.invariant-skip_items-items
+invariant-skip_items-items g l = record {
+  done : ℕ;
+  counted : done + l.left ≡ l.fn.count;
+  reads : ReadsCounted (ghosts g.row.T g.T.Read g.T.Read-dict) done l.depth l.fn.decoder l.decoder;
+  same : done ≡ 0 → l.decoder ≡ l.fn.decoder;
+}
+
+abbrev pub decreases-skip_items-items : goal.decreases-skip_items-items
+decreases-skip_items-items g l = l.left

@@ -1,0 +1,108 @@
+//! Items and titles that the buffer of a reader holds.
+
+ghost use Rattle.std.specs.Prelude.{◌≡◌, ◌+◌, ◌≤◌, None, length, take};
+ghost use Rattle.std.specs.Io.KnownBytes.{Consumes};
+ghost use Rattle.ciborium_ll_grammar.specs.declared.limits.TheConstants.{MOST_LEVELS};
+ghost use Rattle.ciborium_ll_decoder.specs.declared.dec.Decoder.{Decoder as AnyDecoder};
+ghost use Rattle.ciborium_ll_decoder.specs.Decoding.{ReadsPast, offset_of, reader_of, spelling_of, waiting_of};
+ghost use Rattle.ciborium_ll_streams.specs.declared.buffered.BufferedReader.{BufferedReader as AnyReader};
+ghost use Rattle.ciborium_ll_streams.specs.Buffers.{buffered_ahead, buffered_read_ahead, buffered_read_failures};
+ghost use Rattle.cbor_skip.specs.Skipping.{ReadsCounted};
+ghost use Rattle.cbor_ahead.specs.Titles.{PassesTitle};
+
+use crate::groups::whole_items;
+use crate::nest::nest_of;
+use ciborium_ll_decoder::dec::Decoder;
+use ciborium_ll_grammar::spelling::Spelling;
+use ciborium_ll_io::io::Read;
+use ciborium_ll_streams::BufferedReader;
+use std::io;
+
+/// How many bytes are passed at once at most. A buffer of this length serves well.
+pub const AHEAD: usize = 65536;
+
+/// Consumes bytes that were read ahead.
+fn pass<T: io::Read>(reader: &mut BufferedReader<'_, T>, len: usize)
+    requires there { len ≤ length (buffered_read_ahead reader.old) }
+    requires room { len ≤ AHEAD }
+    ensures consumed { Consumes (buffered_ahead T.remaining reader.old) (buffered_ahead T.remaining reader.new)
+        (take len (buffered_read_ahead reader.old)) }
+    ensures failures { buffered_read_failures reader.new ≡ buffered_read_failures reader.old }
+{
+    let mut bytes = [0; AHEAD];
+    if reader.read_exact(&mut bytes[..len]).is_err() {
+        unreachable!();
+    }
+}
+
+/// Makes a decoder at this offset, and consumes bytes that its reader has read ahead.
+fn decoder_behind<'a, T: io::Read>(
+    reader: BufferedReader<'a, T>,
+    len: usize,
+    spelling: Spelling,
+    offset: usize,
+) -> Decoder<BufferedReader<'a, T>>
+    requires there { len ≤ length (buffered_read_ahead reader) }
+    requires room { len ≤ AHEAD }
+    requires fits { offset + len ≤ usize.MAX }
+    ensures { (old : AnyDecoder (AnyReader T)) → waiting_of old ≡ None → reader_of old ≡ reader.entry
+        → offset_of old ≡ offset → spelling_of old ≡ spelling
+        → ReadsPast ⟦<BufferedReader<'a, T> as Read>⟧ old (take len (buffered_read_ahead reader.entry)) result }
+{
+    let mut reader = reader;
+    pass(&mut reader, len);
+    Decoder::with_spelling(reader, spelling, offset + len)
+}
+
+/// Skips at most `most` items that the reader has read ahead, as long as it holds whole ones, and returns how many
+/// these were. It reads nothing.
+///
+/// Tags, arrays and maps nest at most `depth` levels deep, and `depth` is at most 256. A strict decoder skips items in
+/// their shortest spelling alone. If a header waits, no item is skipped. Otherwise no header waits then.
+pub fn pass_items<'a, T: io::Read>(
+    decoder: Decoder<BufferedReader<'a, T>>,
+    most: usize,
+    depth: usize,
+) -> (Decoder<BufferedReader<'a, T>>, usize)
+    requires { depth ≤ MOST_LEVELS }
+    ensures most { result.1 ≤ most }
+    ensures reads { ReadsCounted ⟦<BufferedReader<'a, T> as Read>⟧ result.1 depth decoder.entry result.0 }
+{
+    if decoder.is_waiting() {
+        return (decoder, 0);
+    }
+    let mut decoder = decoder;
+    let offset = decoder.offset();
+    let spelling = decoder.spelling();
+    let reader = decoder.into_inner();
+    let ahead = reader.buffer();
+    let room = ahead.len().min(AHEAD).min(usize::MAX - offset);
+    let run = whole_items(&ahead[..room], most, spelling, depth);
+    let passed = decoder_behind(reader, run.len, spelling, offset);
+    (passed, run.count)
+}
+
+/// Takes the title of a tag, an array or a map that the reader has read ahead, if it counts its items, and returns how
+/// many items these are. Otherwise it takes nothing.
+pub(crate) fn pass_title<'a, T: io::Read>(
+    decoder: Decoder<BufferedReader<'a, T>>,
+) -> (Decoder<BufferedReader<'a, T>>, Option<usize>)
+    ensures { PassesTitle ⟦<BufferedReader<'a, T> as Read>⟧ decoder.entry result.1 result.0 }
+{
+    if decoder.is_waiting() {
+        return (decoder, None);
+    }
+    let mut decoder = decoder;
+    let offset = decoder.offset();
+    let spelling = decoder.spelling();
+    let reader = decoder.into_inner();
+    let ahead = reader.buffer();
+    let room = ahead.len().min(AHEAD).min(usize::MAX - offset);
+    match nest_of(&ahead[..room], spelling) {
+        Some(nest) => {
+            let titled = decoder_behind(reader, nest.len, spelling, offset);
+            (titled, Some(nest.count))
+        }
+        None => (decoder_behind(reader, 0, spelling, offset), None),
+    }
+}

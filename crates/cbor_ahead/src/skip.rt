@@ -1,0 +1,109 @@
+//! Items of a reader that reads ahead, whatever its buffer holds of them.
+
+ghost use Rattle.std.specs.Prelude.{◌≡◌, ◌≤◌, length};
+ghost use Rattle.ciborium_ll_grammar.specs.declared.limits.TheConstants.{LEAST_BUFFER, MOST_LEVELS};
+ghost use Rattle.cbor_skip.specs.Skipping.{SkipsCounted, SkipsItem};
+
+use crate::pass::{pass_items, pass_title};
+use cbor_skip::{SkipError, skip_item};
+use ciborium_ll_decoder::dec::Decoder;
+use ciborium_ll_io::io::Read;
+use ciborium_ll_streams::{BufferedReader, FaultKept};
+use std::io;
+
+/// In how many nests around an item [`skip_items`] looks for items that the buffer holds.
+///
+/// An item that the buffer holds in part is looked at once in each. So bytes are looked at a few times at most.
+pub const NESTS: usize = 4;
+
+/// Skips `count` items (RFC 7049, 2.1 to 2.4): those that the buffer of the reader holds by a checker, and the others
+/// as [`skip_item`] does. It also looks so at the items of an item that the buffer does not hold, in `nests` nests.
+///
+/// [`skip_item`] says the rules of the depth, the buffer and strictness. The answer is that of as many calls of it.
+///
+/// # Errors
+///
+/// The error of [`skip_item`] on the first item that was not skipped. The decoder has then consumed what it consumes.
+#[cycle(nests)]
+pub fn skip_items<'a, T: io::Read>(
+    decoder: Decoder<BufferedReader<'a, T>>,
+    count: usize,
+    nests: usize,
+    depth: usize,
+    buffer: &mut [u8],
+) -> (
+    Decoder<BufferedReader<'a, T>>,
+    Result<(), SkipError<FaultKept>>,
+)
+    requires shallow { depth ≤ MOST_LEVELS }
+    requires room { LEAST_BUFFER ≤ length buffer.old }
+    ensures skipped { SkipsCounted ⟦<BufferedReader<'a, T> as Read>⟧ count depth (length buffer.old) decoder.entry
+        result.1 result.0 }
+    ensures none { count ≡ 0 → result.0 ≡ decoder.entry }
+{
+    let mut decoder = decoder;
+    let mut left = count;
+    'items: while left > 0 {
+        let (passed, taken) = pass_items(decoder, left, depth);
+        left -= taken;
+        if left == 0 {
+            return (passed, Ok(()));
+        }
+        let (next, outcome) = skip_one(passed, nests, depth, buffer);
+        if let Err(error) = outcome {
+            return (next, Err(error));
+        }
+        left -= 1;
+        decoder = next;
+    }
+    (decoder, Ok(()))
+}
+
+/// Skips one item as [`skip_items`] does, if the buffer does not hold it: it looks at the items within it alone.
+///
+/// # Errors
+///
+/// The errors of [`skip_item`].
+#[cycle(nests)]
+pub fn skip_one<'a, T: io::Read>(
+    decoder: Decoder<BufferedReader<'a, T>>,
+    nests: usize,
+    depth: usize,
+    buffer: &mut [u8],
+) -> (
+    Decoder<BufferedReader<'a, T>>,
+    Result<(), SkipError<FaultKept>>,
+)
+    requires shallow { depth ≤ MOST_LEVELS }
+    requires room { LEAST_BUFFER ≤ length buffer.old }
+    ensures skipped { SkipsItem ⟦<BufferedReader<'a, T> as Read>⟧ depth (length buffer.old) decoder.entry
+        result.1 result.0 }
+{
+    if nests == 0 || depth == 0 {
+        return skip_slowly(decoder, depth, buffer);
+    }
+    let (titled, within) = pass_title(decoder);
+    match within {
+        Some(count) => skip_items(titled, count, nests - 1, depth - 1, buffer),
+        None => skip_slowly(titled, depth, buffer),
+    }
+}
+
+/// Skips one item by its titles.
+fn skip_slowly<'a, T: io::Read>(
+    decoder: Decoder<BufferedReader<'a, T>>,
+    depth: usize,
+    buffer: &mut [u8],
+) -> (
+    Decoder<BufferedReader<'a, T>>,
+    Result<(), SkipError<FaultKept>>,
+)
+    requires shallow { depth ≤ MOST_LEVELS }
+    requires room { LEAST_BUFFER ≤ length buffer.old }
+    ensures skipped { SkipsItem ⟦<BufferedReader<'a, T> as Read>⟧ depth (length buffer.old) decoder.entry
+        result.1 result.0 }
+{
+    let mut decoder = decoder;
+    let outcome = skip_item(&mut decoder, depth, buffer);
+    (decoder, outcome)
+}
