@@ -1,3 +1,4 @@
+pub mod AheadLaws
 pub mod DeterministicLaws
 pub mod FoundLaws
 pub mod LineLaws

@@ -4,6 +4,7 @@
 //! The calls work over any decoder, and any rows or writer of the library. `tool_files` prints the answers.
 #![tactic(auto)]
 
+pub mod ahead;
 pub mod check;
 pub mod deterministic;
 pub mod dump;

@@ -181,7 +181,7 @@ pub(crate) fn is_enough(most: Option<usize>, items: usize) -> bool
 
 /// Returns the verdict after whole items of this many bytes. The read of a further item, which would begin at `place`,
 /// failed and stopped at the offset `stop`.
-fn verdict_at<E: Drop>(
+pub(crate) fn verdict_at<E: Drop>(
     error: SkipError<E>,
     items: usize,
     bytes: usize,

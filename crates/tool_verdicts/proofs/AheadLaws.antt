@@ -1,0 +1,83 @@
+-- Verdicts on an input that is read ahead.
+use Rattle.std.proofs.Common.{◌≡◌, ℕ, ◌≤◌, ◌↔◌, Bool, false, IsTrue, length, Option, Some, None, Result, Ok, Err}
+use Rattle.std.proofs.Common.{refl, ap, ◌∙◌, inl, inr, arith}
+use Rattle.ciborium_ll.specs.Types.Read.{Ghosts}
+use Rattle.ciborium_ll.specs.Types.Decoder.{Decoder}
+use Rattle.ciborium_ll.specs.Types.Error.TheVariants as e
+use Rattle.cbor_skip.specs.declared.SkipError.{SkipError}
+use Rattle.cbor_skip.specs.declared.SkipError.TheVariants as s
+use Rattle.cbor_skip.specs.Skipping.{ReadsCounted, SkipsItem}
+use Rattle.cbor_dump.specs.Sequences.{IsEnd, ReadsItems}
+use Rattle.tool_verdicts.specs.Checking.{SaysItems}
+use Rattle.tool_verdicts.specs.Parts.{EndsAt, EndsSome, IsAtMost, IsBelow, SaysSome, enough, stops}
+use Rattle.tool_verdicts.proofs.PartLaws.{ends_same}
+use Rattle.tool_verdicts.specs.declared.verdict.Verdict.{Verdict}
+use Rattle.tool_verdicts.specs.declared.verdict.Verdict.TheVariants as v
+
+module _ {R E : Type 0} (source : Ghosts R E) (depth room : ℕ) (old new : Decoder R) (verdict : Verdict) where
+  module _ (count : ℕ) (between : Decoder R) (reads : ReadsItems source depth count old between) where
+    -- The verdict at the end of all items.
+    ended_all : (error : SkipError E) → IsEnd error between.offset new.offset
+        → SkipsItem source depth room between (Err error) new → verdict ≡ v.Well count (length reads.bytes)
+        → SaysItems source depth room old verdict new
+    ended_all (s.Break at) is fails said = absurd is
+    ended_all (s.Deep at) is fails said = absurd is
+    ended_all (s.Read (e.Io fault)) is fails said = record {
+      answer = Ok (record { items = count; bytes = length reads.bytes; «end» = fault });
+      checks = record { between = between; reads = reads; counted = refl; fails = fails; still = is };
+      said = said;
+    }
+    ended_all (s.Read (e.Syntax at)) is fails said = absurd is
+    ended_all (s.Read e.TooLong) is fails said = absurd is
+    ended_all (s.Read e.Waiting) is fails said = absurd is
+
+    all_ended : EndsSome source depth room None count (length reads.bytes) between verdict new
+        → SaysItems source depth room old verdict new
+    all_ended (enough is same said) = absurd cc
+    all_ended (stops error below fails (inl there)) = ended_all error there.0 fails there.1
+    all_ended (stops error below fails (inr named)) = record {
+      answer = Err (record { items = count; place = between.offset; error = error });
+      checks = record { between = between; reads = reads; place = refl; fails = fails; no_end = named.0 };
+      said = named.1;
+    }
+
+  -- The verdict on at most a number of items is that on all, if there is no limit.
+  pub says_all : SaysSome source depth room None old verdict new → SaysItems source depth room old verdict new
+  says_all some = all_ended some.count some.between some.reads some.ends
+
+-- A number below one that is at most the limit is at most the limit.
+pub fewer_most : (most : Option ℕ) (some all : ℕ) → some ≤ all → IsAtMost most all → IsAtMost most some
+fewer_most None some all less few = tt
+fewer_most (Some most) some all less few = omega (arith, less, few)
+
+-- A test that does not hold.
+pub test_fails : (test : Bool) (P : Type 0) → (IsTrue test ↔ P) → test ≡ false → P → ⊥
+test_fails test P same is holds = absurd (cc (same.1 holds, is))
+
+-- The verdict says what the items that were read before its error are.
+pub says_stopped : {R E : Type 0} (source : Ghosts R E) (depth room : ℕ) (most : Option ℕ) (old between new : Decoder R)
+    (error : SkipError E) (verdict : Verdict) (count bytes place stop : ℕ)
+    (reads : ReadsCounted source count depth old between) → IsBelow most count
+    → SkipsItem source depth room between (Err error) new → EndsAt error count bytes place stop verdict
+    → bytes ≡ length reads.items → place ≡ between.offset → stop ≡ new.offset
+    → SaysSome source depth room most old verdict new
+says_stopped source depth room most old between new error verdict count bytes place stop reads below fails ends length_is
+    at there = record {
+      count = count;
+      between = between;
+      reads = record { bytes = reads.items; are_items = reads.are_items; passed = reads.passed };
+      ends = stops error below fails (ends_same error count count bytes (length reads.items) place between.offset stop
+          new.offset verdict ends refl length_is at there);
+    }
+
+-- The verdict says that enough items were read.
+pub says_enough : {R E : Type 0} (source : Ghosts R E) (depth room : ℕ) (most : Option ℕ) (old between new : Decoder R)
+    (verdict : Verdict) (count bytes : ℕ) (reads : ReadsCounted source count depth old between) → most ≡ Some count
+    → new ≡ between → verdict ≡ v.Well count bytes → bytes ≡ length reads.items
+    → SaysSome source depth room most old verdict new
+says_enough source depth room most old between new verdict count bytes reads is same said length_is = record {
+  count = count;
+  between = between;
+  reads = record { bytes = reads.items; are_items = reads.are_items; passed = reads.passed };
+  ends = enough is same (said ∙ ap (λ (n : ℕ). v.Well count n) length_is);
+}
