@@ -4,16 +4,17 @@ ghost use Rattle.std.specs.Prelude.{IfSome};
 ghost use Rattle.tool_files.specs.Inputs.{ChecksInput, CountsItems};
 
 use crate::arguments::Options;
+use cbor_ahead::AHEAD;
 use ciborium_ll::io::{BufferedReader, Read};
 use std::io;
+use tool_verdicts::ahead::wanted_ahead;
 use tool_verdicts::check::{decoder_of, failed_or};
-use tool_verdicts::part::wanted_part;
 use tool_verdicts::verdict::Verdict;
 
 /// How many bytes are read ahead at most.
 pub const ROOM: usize = 8192;
 
-/// Checks a reader's bytes from their start on, as `wanted_part` does with these options, and returns the verdict.
+/// Checks a reader's bytes from their start on, as `wanted_ahead` does with these options, and returns the verdict.
 ///
 /// Without `--items` it reads them to their end, and otherwise to the end of the last item that is wanted.
 ///
@@ -27,11 +28,13 @@ pub fn check_input<R: io::Read + Drop>(reader: R, options: Options) -> Verdict
     ensures checks { ChecksInput ⟦<BufferedReader<'static, R> as Read>⟧ options.spelling options.skip
         options.items options.one options.depth reader result }
 {
-    let mut ahead = [0; ROOM];
-    let reader = BufferedReader::new(reader, &mut ahead);
-    let mut decoder = decoder_of(reader, options.spelling);
-    let verdict = wanted_part(
-        &mut decoder,
+    let mut ahead = [0; AHEAD];
+    // A fault of digits that are read ahead is said first, so only a few are.
+    let room = if options.hex { ROOM } else { AHEAD };
+    let reader = BufferedReader::new(reader, &mut ahead[..room]);
+    let decoder = decoder_of(reader, options.spelling);
+    let (decoder, verdict) = wanted_ahead(
+        decoder,
         options.skip,
         options.items,
         options.one,
