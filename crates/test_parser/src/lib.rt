@@ -8,3 +8,5 @@ mod answers;
 mod rows;
 #[cfg(test)]
 mod shared;
+#[cfg(test)]
+mod strings;
