@@ -24,6 +24,8 @@ mod indexes;
 #[cfg(test)]
 mod jsons;
 #[cfg(test)]
+mod long;
+#[cfg(test)]
 mod pictures;
 #[cfg(test)]
 mod recodes;
