@@ -1,8 +1,8 @@
 //! Shows the item that a byte string contains (RFC 8949, 3.4.5.1).
 
-ghost use Rattle.std.specs.Prelude.{◌≡◌, ◌≤◌, ◌+◌, ◌^◌, ℕ, List, [], IfOk, OnOk, nat_lt, true, false};
+ghost use Rattle.std.specs.Prelude.{◌≡◌, ◌≤◌, ◌+◌, ℕ, List, [], IfOk, OnOk, nat_lt, true, false};
 ghost use Rattle.cbor_dump.specs.declared.embedded.TheConstants.{SPARE};
-ghost use Rattle.ciborium_ll.specs.Decoding.{offset_of};
+ghost use Rattle.ciborium_ll.specs.Decoding.{offset_limit, offset_of};
 ghost use Rattle.ciborium_ll.specs.Items.{IsItem};
 ghost use Rattle.ciborium_ll.specs.Premises.{CanRead};
 ghost use Rattle.cbor_dump.specs.Bodies.{DrawsBody, IsShownAs};
@@ -75,7 +75,7 @@ pub fn dump_body<S: Deepen>(
 
 /// Returns whether a dump of that many bytes can count its offsets.
 fn has_offsets(offset: usize, len: usize) -> bool
-    ensures { result ≡ nat_lt (offset + len + SPARE) (2 ^ 64) }
+    ensures { result ≡ nat_lt (offset + len + SPARE) offset_limit }
 {
     len <= usize::MAX - SPARE && offset <= usize::MAX - SPARE - len
 }

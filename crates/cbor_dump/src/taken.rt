@@ -4,6 +4,7 @@ ghost use Rattle.std.specs.Prelude.{◌≡◌, ◌+◌, ◌-◌, ◌%◌, ◌<�
 ghost use Rattle.std.specs.Prelude.{IsTrue, None, Ok, Err};
 ghost use Rattle.ciborium_ll.specs.Title.{affix_len};
 ghost use Rattle.ciborium_ll.specs.Decoding.{offset_of, view, waiting_of, IsWaiting, ReadsPast};
+ghost use Rattle.ciborium_ll.specs.Premises.{longest_affix};
 
 use crate::fronts::{is_cut, is_text, title_header};
 use ciborium_ll::io::Read;
@@ -28,7 +29,7 @@ impl Taken {
     ghost use Rattle.ciborium_ll.specs.Items.{IsTakenTitle};
     ghost use Rattle.ciborium_ll.specs.Title.{IsTitle};
     ghost use Rattle.cbor_dump.specs.Takings.{EndsRow, IsInMode, IsSteadyNoneWaiting, Keeps, PullsRow, ReadsBy, ReadsMore};
-    ghost use Rattle.cbor_dump.specs.Takings.{IsTitleRow, LeavesBehind, RefusesRead, taken_bytes};
+    ghost use Rattle.cbor_dump.specs.Takings.{IsTitleRow, LeavesBehind, RefusesRead, most_bytes, taken_bytes};
     ghost use Rattle.ciborium_ll.specs.Types.Error.TheVariants.{Waiting};
     ghost use Rattle.cbor_dump.specs.Parts.{IsFullPart, IsPartRow, IsSound, ReadsTextPart};
     ghost use Rattle.ciborium_ll.specs.Strings.{Text};
@@ -52,7 +53,7 @@ impl Taken {
 
     /// Returns how many bytes were read.
     pub(crate) fn len(&self) -> usize
-        ensures most { result ≤ 16 }
+        ensures most { result ≤ most_bytes }
         ensures value { result ≡ length (taken_bytes self.now) }
     {
         self.len
@@ -66,7 +67,7 @@ impl Taken {
     ) -> Result<(), Error<R::Error>>
         ensures keeps { Keeps R.Read (taken_bytes self.old) (taken_bytes self.new) decoder.old decoder.new }
         ensures all { IfOk result (λ _. length (taken_bytes self.new)
-            ≡ length (taken_bytes self.old) + min count (16 - length (taken_bytes self.old))) }
+            ≡ length (taken_bytes self.old) + min count (most_bytes - length (taken_bytes self.old))) }
         ensures none { IfErr result (λ _. taken_bytes self.new ≡ taken_bytes self.old) }
         ensures reads { ReadsMore R.Read count (taken_bytes self.old) (taken_bytes self.new) decoder.old result
             decoder.new }
@@ -174,7 +175,7 @@ impl Taken {
 
 /// Returns how many bytes follow a first byte (RFC 7049, 2.1).
 fn affix_len(first: u8) -> usize
-    ensures few { result ≤ 8 }
+    ensures few { result ≤ longest_affix }
     ensures value { result ≡ affix_len (first % 32) }
 {
     row_of(first).affix.len()
