@@ -18,22 +18,8 @@ use ciborium_ll_io::io::Read;
 use ciborium_ll_streams::BufferedReader;
 use std::io;
 
-/// How many bytes are passed at once at most. A buffer of this length serves well.
+/// A length of a reader's buffer that serves well.
 pub const AHEAD: usize = 65536;
-
-/// Consumes bytes that were read ahead.
-fn pass<T: io::Read>(reader: &mut BufferedReader<'_, T>, len: usize)
-    requires there { len ≤ length (buffered_read_ahead reader.old) }
-    requires room { len ≤ AHEAD }
-    ensures consumed { Consumes (buffered_ahead T.remaining reader.old) (buffered_ahead T.remaining reader.new)
-        (take len (buffered_read_ahead reader.old)) }
-    ensures failures { buffered_read_failures reader.new ≡ buffered_read_failures reader.old }
-{
-    let mut bytes = [0; AHEAD];
-    if reader.read_exact(&mut bytes[..len]).is_err() {
-        unreachable!();
-    }
-}
 
 /// Makes a decoder at this offset, and consumes bytes that its reader has read ahead.
 fn decoder_behind<'a, T: io::Read>(
@@ -43,14 +29,13 @@ fn decoder_behind<'a, T: io::Read>(
     offset: usize,
 ) -> Decoder<BufferedReader<'a, T>>
     requires there { len ≤ length (buffered_read_ahead reader) }
-    requires room { len ≤ AHEAD }
     requires fits { offset + len ≤ usize.MAX }
     ensures { (old : AnyDecoder (AnyReader T)) → waiting_of old ≡ None → reader_of old ≡ reader.entry
         → offset_of old ≡ offset → spelling_of old ≡ spelling
         → ReadsPast ⟦<BufferedReader<'a, T> as Read>⟧ old (take len (buffered_read_ahead reader.entry)) result }
 {
     let mut reader = reader;
-    pass(&mut reader, len);
+    reader.consume(len);
     Decoder::with_spelling(reader, spelling, offset + len)
 }
 
@@ -76,7 +61,7 @@ pub fn pass_items<'a, T: io::Read>(
     let spelling = decoder.spelling();
     let reader = decoder.into_inner();
     let ahead = reader.buffer();
-    let room = ahead.len().min(AHEAD).min(usize::MAX - offset);
+    let room = ahead.len().min(usize::MAX - offset);
     let run = whole_items(&ahead[..room], most, spelling, depth);
     let passed = decoder_behind(reader, run.len, spelling, offset);
     (passed, run.count)
@@ -97,7 +82,7 @@ pub(crate) fn pass_title<'a, T: io::Read>(
     let spelling = decoder.spelling();
     let reader = decoder.into_inner();
     let ahead = reader.buffer();
-    let room = ahead.len().min(AHEAD).min(usize::MAX - offset);
+    let room = ahead.len().min(usize::MAX - offset);
     match nest_of(&ahead[..room], spelling) {
         Some(nest) => {
             let titled = decoder_behind(reader, nest.len, spelling, offset);

@@ -57,6 +57,21 @@ impl<'a, T: io::Read> BufferedReader<'a, T> {
         self.window.held()
     }
 
+    /// Gives up the first `len` bytes read ahead, as if a caller had read them.
+    pub fn consume(&mut self, len: usize)
+        requires { len ≤ length (buffered_read_ahead self.old) }
+        ensures read_ahead { buffered_read_ahead self.old
+            ≡ take len (buffered_read_ahead self.old) ++ buffered_read_ahead self.new }
+        ensures ahead { Consumes (buffered_ahead T.remaining self.old) (buffered_ahead T.remaining self.new)
+            (take len (buffered_read_ahead self.old)) }
+        ensures source { buffered_source self.new ≡ buffered_source self.old }
+        ensures capacity { buffered_read_capacity self.new ≡ buffered_read_capacity self.old }
+        ensures fault { buffered_read_fault self.new ≡ buffered_read_fault self.old }
+        ensures failures { buffered_read_failures self.new ≡ buffered_read_failures self.old }
+    {
+        self.window.skip(len);
+    }
+
     /// Takes the fault of the last failed call, if it keeps one.
     pub fn take_fault(&mut self) -> Option<ReadFault>
         ensures fault { result ≡ buffered_read_fault self.old }
