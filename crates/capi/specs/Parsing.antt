@@ -134,8 +134,7 @@ pub record PushesPiece (allowed : Spelling) (before : List ℕ) (tokens : List T
       → (answer ≡ a.Syntax) × (event.consumed ≡ 0) × (event.place ≡ place)
 
 -- The meaning of an answer and its number at the point that all bytes lead to. The bytes may end there. Or this many
--- bytes of a title or a body are due, of which 1 is the least. Or there is a fault. After `42 05` the answer is `Short`
--- with 1.
+-- bytes of a title or a body are due, at least 1. Or there is a fault. After `42 05` the answer is `Short` with 1.
 abbrev pub SaysAt : Point → CllAnswer → ℕ → Type 0
 SaysAt point a.Ok number = (point ≡ AtTitle w.Nothing []) × (number ≡ 0)
 SaysAt point a.Short number =

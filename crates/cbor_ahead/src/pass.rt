@@ -44,6 +44,8 @@ fn decoder_behind<'a, T: io::Read>(
 ///
 /// Tags, arrays and maps nest at most `depth` levels deep, and `depth` is at most 256. A strict decoder skips items in
 /// their shortest spelling alone. If a header waits, no item is skipped. Otherwise no header waits then.
+///
+/// The contract does not say how many items these are: by it a call may skip fewer than there are, or none.
 pub fn pass_items<'a, T: io::Read>(
     decoder: Decoder<BufferedReader<'a, T>>,
     most: usize,
