@@ -1,5 +1,5 @@
 -- The deterministic encoding of a sequence of items (RFC 8949, 4.2, and RFC 8742), and what `canon` writes.
-use Rattle.std.specs.Prelude.{◌≡◌, ℕ, ◌+◌, ◌-◌, ◌^◌, min, List, [], ◌++◌, length, Option, Result, Ok, Err}
+use Rattle.std.specs.Prelude.{◌≡◌, ◌≢◌, ℕ, ◌+◌, ◌-◌, ◌^◌, min, List, [], ◌++◌, length, Option, Result, Ok, Err}
 use Rattle.std.specs.Io.KnownBytes.{Appends, Keeps}
 use Rattle.std.specs.IoError.{error_kind}
 use Rattle.std.specs.declared.io.ErrorKind.TheVariants as k
@@ -64,9 +64,9 @@ IsErrorAt start Memory Memory = Unit {0}
 IsErrorAt start error moved = ⊥
 
 -- `Ok`: the bytes of the reader are items, and their encodings were written. After a refusal nothing was written, and
--- the bytes of the reader stop with it. Nothing was written either if memory or the reader failed. If the writer
--- failed, the bytes of the reader are items, and it got a beginning of their encodings, or all of them. Of the input
--- `18 01` `01` is written.
+-- the bytes of the reader stop with it. Nothing was written either if memory or the reader failed. A read that was
+-- interrupted is made again, and is no failure. If the writer failed, the bytes of the reader are items, and it got a
+-- beginning of their encodings, or all of them. Of the input `18 01` `01` is written.
 abbrev pub WritesCanon : {W : Type 0} → (W → Option (List ℕ)) → Order → ℕ → Option (List ℕ) → W
     → Result (Unit {0}) CanonFault → W → Type 0
 WritesCanon told order depth input old (Ok done) new = (bytes encodings : List ℕ) × IsWhole input bytes
@@ -74,6 +74,7 @@ WritesCanon told order depth input old (Ok done) new = (bytes encodings : List �
 WritesCanon told order depth input old (Err (c.Unwritten error)) new = (bytes : List ℕ) × IsWhole input bytes
     × AreUnwritten order depth bytes error × Keeps (told old) (told new)
 WritesCanon told order depth input old (Err (c.Input error)) new = Keeps (told old) (told new)
+    × (error_kind error ≢ k.Interrupted)
 WritesCanon told order depth input old (Err (c.Output error)) new = (bytes encodings : List ℕ) × IsWhole input bytes
     × AreRewritten order depth bytes encodings × AppendsSome (told old) (told new) encodings
 

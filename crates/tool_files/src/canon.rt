@@ -74,7 +74,8 @@ fn refusal_verdict(why: Why, place: usize) -> Verdict
 /// # Errors
 ///
 /// - `Unwritten`: `canonical` refuses an item, at this offset in the input, or no memory is left. Nothing is written.
-/// - `Input`: the reader failed, or there is no memory for the bytes. Nothing is written.
+/// - `Input`: the reader failed, or there is no memory for the bytes. Nothing is written. A read that was interrupted is
+///   made again.
 /// - `Output`: the writer failed. It got a beginning of the encodings of all items, or all of it.
 pub fn canon_input<R: io::Read + Drop, W: io::Write>(
     alloc: Global,

@@ -12,7 +12,8 @@ use tool_verdicts::verdict::Verdict;
 /// Reads a reader's bytes to their end, and returns the verdict of `check_bytes` on them with these options. `--strict`
 /// changes nothing, since the deterministic encoding has the shortest spelling.
 ///
-/// The bytes are held in memory. If a read failed, or there is no memory for the bytes, the verdict says so.
+/// The bytes are held in memory. If a read failed, or there is no memory for the bytes, the verdict says so. A read that
+/// was interrupted is made again.
 pub fn check_deterministic<R: io::Read + Drop>(
     alloc: Global,
     mut reader: R,

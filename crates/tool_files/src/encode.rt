@@ -28,7 +28,8 @@ pub enum EncodeFault {
 /// # Errors
 ///
 /// - `Notation`: the text is no such notation. The error has the line and the column. Nothing is written.
-/// - `Input`: the reader failed, or there is no memory for the text. Nothing is written.
+/// - `Input`: the reader failed, or there is no memory for the text. Nothing is written. A read that was interrupted is
+///   made again.
 /// - `Output`: the writer failed. It got a beginning of the bytes, or all of them.
 pub fn encode_input<R: io::Read + Drop, W: io::Write>(
     alloc: Global,

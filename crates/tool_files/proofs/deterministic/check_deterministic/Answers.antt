@@ -1,4 +1,4 @@
-use Rattle.std.proofs.Common.{refl}
+use Rattle.std.proofs.Common.{refl, rules}
 use Rattle.tool_verdicts.specs.Deterministic.{FindsDeterministic}
 use Rattle.tool_files.specs.Given.{IsWhole}
 use Rattle.tool_files.specs.Deterministic.{failed, found}
@@ -18,4 +18,4 @@ returns-in-Ok g c =
     found bytes all finds
 
 pub returns : goal.returns
-returns g c = failed
+returns g c = failed (search rules)
