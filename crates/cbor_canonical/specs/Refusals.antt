@@ -69,8 +69,8 @@ pub record HasSameKey (depth : ℕ) (bytes : List ℕ) (place : ℕ) : Type 0 wh
 
 -- `HasRefusal depth bytes why place`: no item to the depth begins the bytes, and `why` stops the read of one at this
 -- offset. Or an item begins them that spells no value, with a simple value from 24 to 31 at this offset (RFC 8949,
--- 3.3). Or it spells no value whose maps have no key twice (5.6), and the place is any number. To a depth of 1 `82 01`
--- is `Cut` at 2, `f8 18` is `NoSimple` at 0, and `a2 01 02 01 03` is `DuplicateKey`.
+-- 3.3). Or it spells no value whose maps have no key twice (5.6), with the later of two such keys at this offset. To a
+-- depth of 1 `82 01` is `Cut` at 2, `f8 18` is `NoSimple` at 0, and `a2 01 02 01 03` is `DuplicateKey` at 3.
 abbrev pub HasRefusal : ℕ → List ℕ → Why → ℕ → Type 0
 HasRefusal depth bytes w.Cut place =
     (fault : HasItemFault Any depth bytes) × (fault.answer ≡ Short) × (place ≡ length bytes)
