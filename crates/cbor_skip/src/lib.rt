@@ -17,10 +17,12 @@ ghost use Rattle.cbor_skip.specs.Skipping.{ReadsItem, StopsItem, allowed_by};
 ghost use Rattle.cbor_skip.specs.SkippingTold.{SkipsFront, SkipsTold};
 ghost use Rattle.ciborium_ll_grammar.specs.declared.limits.TheConstants.{LEAST_BUFFER, MOST_LEVELS};
 
+mod after;
 pub mod laws;
 mod messages;
 mod remaining;
 
+pub use self::after::skip_after;
 pub use self::remaining::Remaining;
 use ciborium_ll_decoder::dec::{Decoder, Error};
 use ciborium_ll_decoder::skip::{skip_bytes, skip_text};

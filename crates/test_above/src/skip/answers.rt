@@ -1,7 +1,7 @@
 ghost use Rattle.std.specs.Prelude.{◌≤◌};
 
 use crate::shared::holds_at;
-use cbor_skip::{SkipError, skip_item};
+use cbor_skip::{SkipError, skip_after, skip_item};
 use ciborium_ll::io::{Read, SliceReader};
 use ciborium_ll::{Decoder, Error};
 use std::process::Abort;
@@ -54,9 +54,24 @@ pub fn answer_for(depth: usize, bytes: &[u8]) -> Answer
     skipped(&mut decoder, depth)
 }
 
-// Compares the answer for the item that the bytes begin with.
+// Pulls the header of the item that the bytes begin with, and skips the rest of the item.
+fn answer_after_header(depth: usize, bytes: &[u8]) -> Answer
+    requires { depth ≤ 256 }
+{
+    let mut decoder = Decoder::from(SliceReader::new(bytes));
+    let header = match decoder.pull() {
+        Ok(header) => header,
+        Err(error) => return read_answer(&error, decoder.offset()),
+    };
+    let outcome = skip_after(&mut decoder, header, 0, depth, &mut [0; 4]);
+    answer_of(&outcome, decoder.offset())
+}
+
+// Compares the answers for the item that the bytes begin with: that of a skip, and that of a skip after the header.
 pub fn item_row(rt: &impl Abort, depth: usize, bytes: &[u8], want: Answer) {
-    let is_right = depth <= 256 && answer_for(depth, bytes) == want;
+    let is_right = depth <= 256
+        && answer_for(depth, bytes) == want
+        && answer_after_header(depth, bytes) == want;
     holds_at(rt, is_right, bytes);
 }
 
