@@ -30,6 +30,7 @@ const _: () = prove!(size_of::<CllCopier>() == 72);
 impl CllCopier {
     /// Returns the copier that this memory holds, if it holds one.
     #[inline(always)]
+    #[tactic(auto, using(crate::proofs::PieceLaws::is_copier))]
     fn restored(&self) -> Option<Copier>
         ensures some { IfSome result (λ copier. IsCopier self.now) }
         ensures kept { (allowed : Spelling) (count : ℕ) (read written : List ℕ)

@@ -59,6 +59,7 @@ pub struct CllEvent {
 impl CllParser {
     /// Returns the parser that this memory holds, if it holds one.
     #[inline(always)]
+    #[tactic(auto, using(crate::proofs::ParserLaws::is_parser))]
     fn restored(&self) -> Option<Parser>
         ensures some { IfSome result (λ parser. IsParser self.now) }
         ensures kept { (allowed : Spelling) (bytes : List ℕ) (tokens : List Token)
