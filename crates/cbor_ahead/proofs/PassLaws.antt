@@ -1,7 +1,7 @@
 -- Bytes that were read ahead and passed, and items in a row.
 use Rattle.std.proofs.Common.{◌≡◌, ℕ, suc, ◌+◌, ◌-◌, ◌<◌, ◌≤◌, ◌↔◌, Bool, false, List, [], ◌++◌, length, take, drop}
 use Rattle.std.proofs.Common.{Option, Some, None, IfSome, IsSome, IsTrue, Result, Ok, Err}
-use Rattle.std.proofs.Common.{refl, sym, ap, ◌∙◌, arith, inl, inr}
+use Rattle.std.proofs.Common.{refl, sym, ap, ◌∙◌, arith, inr}
 use Rattle.std.proofs.lemmas.List.{take-append-drop, take-append-le}
 use Rattle.std.specs.Io.KnownBytes.{Consumes}
 use Rattle.ciborium_ll_io.specs.declared.io.Read.{Ghosts}
@@ -9,14 +9,14 @@ use Rattle.ciborium_ll_grammar.specs.declared.hdr.Header.{Header}
 use Rattle.ciborium_ll_grammar.specs.Items.{AreItems, no_items}
 use Rattle.ciborium_ll_grammar.proofs.ItemJoins.{items_joined}
 use Rattle.ciborium_ll_decoder.specs.declared.dec.Decoder.{Decoder}
-use Rattle.ciborium_ll_decoder.specs.Decoding.{IsSteady, ReadsPast, failures_of, spelling_of}
+use Rattle.ciborium_ll_decoder.specs.Decoding.{IsSteady, PullsTitle, ReadsPast, failures_of, spelling_of}
+use Rattle.cbor_skip.specs.Due.{item_count}
 use Rattle.ciborium_ll_decoder.proofs.DecodingLaws.{ReadsPast-none, ReadsPast-then}
 use Rattle.cbor_skip.specs.declared.SkipError.{SkipError}
 use Rattle.cbor_skip.specs.Skipping.{ReadsCounted, ReadsItem, SkipsCounted, SkipsItem, StopsCounted, allowed_by}
 use Rattle.cbor_skip.proofs.ItemRuns.{counted_within}
 use Rattle.cbor_skip.proofs.ItemSteps.{reads_nest, stops_nest}
-use Rattle.cbor_skip.proofs.StrictnessLaws.{due_looser, items_looser, passed_keeps, strict_settled}
-use Rattle.cbor_ahead.specs.Titles.{BeginsNest, TakesNest}
+use Rattle.cbor_skip.proofs.StrictnessLaws.{items_looser, passed_keeps, strict_settled}
 
 -- A test that no header waits.
 pub none_waits : (waiting : Option Header) (waits : Bool) → (IsTrue waits ↔ IsSome waiting) → waits ≡ false
@@ -53,13 +53,6 @@ module _ {R E : Type 0} (source : Ghosts R E) where
     mode = mode;
   }
 
-  still_none : (old new : Decoder R) (bytes : List ℕ) → old.waiting ≡ None → ReadsPast source old bytes new
-      → new.waiting ≡ None
-  still_none old new bytes none passed = elim passed.waiting [
-    | inl same ↦ ap (λ (d : Decoder R). d.waiting) same.1 ∙ none
-    | inr taken ↦ taken
-  ]
-
   -- Items that the bytes begin with are read.
   pub passes_items : (old new : Decoder R) (depth count : ℕ) (bytes : List ℕ) → old.waiting ≡ None
       → AreItems (spelling_of old) depth count bytes → ReadsPast source old bytes new
@@ -68,27 +61,6 @@ module _ {R E : Type 0} (source : Ghosts R E) where
     items = bytes;
     are_items = rw (strict_settled old.waiting (spelling_of old) none) are;
     passed = passed;
-  }
-
-  -- The title of a nest with which the bytes begin is taken.
-  pub passes_title : (old new : Decoder R) (bytes : List ℕ) (len count : ℕ) → old.waiting ≡ None
-      → BeginsNest (spelling_of old) bytes len count → ReadsPast source old (take len bytes) new
-      → TakesNest source old count new
-  passes_title old new bytes len count none begins passed = record {
-    header = begins.header;
-    counted = begins.counted;
-    pulls = record {
-      title = take len bytes;
-      is_title = begins.is_title;
-      bytes = passed.consumed;
-      offset = passed.offset;
-      none_waits = still_none old new (take len bytes) none passed;
-      failures = passed.failures;
-      waited = none_waited old.waiting _ none;
-      mode = passed.mode;
-      strict = λ on no_wait. begins.strict on;
-    };
-    steady = passed.steady;
   }
 
   -- ---- items in a row
@@ -130,36 +102,16 @@ module _ {R E : Type 0} (source : Ghosts R E) where
 
   -- ---- one item
 
-  -- A decoder that read no byte skips as it did before.
-  pub same_skip : (depth room : ℕ) (old now new : Decoder R) → ReadsPast source old [] now
-      → (result : Result (Unit {0}) (SkipError E)) → SkipsItem source depth room now result new
-      → SkipsItem source depth room old result new
-  same_skip depth room old now new none (Ok done) reads = record {
-    item = reads.item;
-    is_item = items_looser (allowed_by old) (allowed_by now) (passed_keeps source none) depth 1 reads.item
-        reads.is_item;
-    passed = ReadsPast-then source old now new [] reads.item none reads.passed;
-  }
-  same_skip depth room old now new none (Err error) stops = record {
-    bytes = stops.bytes;
-    levels = stops.levels;
-    closable = stops.closable;
-    due = due_looser (allowed_by old) (allowed_by now) (passed_keeps source none) false depth stops.bytes stops.levels
-        stops.closable stops.due;
-    between = stops.between;
-    passed = ReadsPast-then source old now stops.between [] stops.bytes none stops.passed;
-    stops = stops.stops;
-  }
-
   -- The items after the title of a nest are the rest of one item.
-  pub nest_skip : (depth room count : ℕ) (old titled new : Decoder R) → 0 < depth
-      → (takes : TakesNest source old count titled) → (result : Result (Unit {0}) (SkipError E))
+  pub nest_skip : (depth room count : ℕ) (old titled new : Decoder R) (header : Header) → 0 < depth
+      → item_count header ≡ Some count → PullsTitle source old header titled
+      → (IsSteady source old → IsSteady source titled) → (result : Result (Unit {0}) (SkipError E))
       → SkipsCounted source count (depth - 1) room titled result new → SkipsItem source depth room old result new
-  nest_skip depth room count old titled new some takes (Ok done) reads =
+  nest_skip depth room count old titled new header some counted pulls steady (Ok done) reads =
       let level : suc (depth - 1) ≡ depth = omega (arith, some) in
-      reads_nest source level takes.pulls takes.steady
-      (counted_within source takes.header count (depth - 1) room titled takes.counted (Ok done) new reads)
-  nest_skip depth room count old titled new some takes (Err error) stops =
+      reads_nest source level pulls steady
+      (counted_within source header count (depth - 1) room titled counted (Ok done) new reads)
+  nest_skip depth room count old titled new header some counted pulls steady (Err error) stops =
       let level : suc (depth - 1) ≡ depth = omega (arith, some) in
-      stops_nest source level takes.pulls takes.steady
-      (counted_within source takes.header count (depth - 1) room titled takes.counted (Err error) new stops)
+      stops_nest source level pulls steady
+      (counted_within source header count (depth - 1) room titled counted (Err error) new stops)

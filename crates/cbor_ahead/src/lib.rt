@@ -8,7 +8,6 @@
 #![tactic(auto)]
 
 mod groups;
-mod nest;
 mod pass;
 mod skip;
 

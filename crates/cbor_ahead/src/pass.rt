@@ -1,4 +1,4 @@
-//! Items and titles that the buffer of a reader holds.
+//! Items that the buffer of a reader holds.
 
 ghost use Rattle.std.specs.Prelude.{◌≡◌, ◌+◌, ◌≤◌, None, length, take};
 ghost use Rattle.std.specs.Io.KnownBytes.{Consumes};
@@ -8,10 +8,8 @@ ghost use Rattle.ciborium_ll_decoder.specs.Decoding.{ReadsPast, offset_of, reade
 ghost use Rattle.ciborium_ll_streams.specs.declared.buffered.BufferedReader.{BufferedReader as AnyReader};
 ghost use Rattle.ciborium_ll_streams.specs.Buffers.{buffered_ahead, buffered_read_ahead, buffered_read_failures};
 ghost use Rattle.cbor_skip.specs.Skipping.{ReadsCounted};
-ghost use Rattle.cbor_ahead.specs.Titles.{PassesTitle};
 
 use crate::groups::whole_items;
-use crate::nest::nest_of;
 use ciborium_ll_decoder::dec::Decoder;
 use ciborium_ll_grammar::spelling::Spelling;
 use ciborium_ll_io::io::Read;
@@ -67,29 +65,4 @@ pub fn pass_items<'a, T: io::Read>(
     let run = whole_items(&ahead[..room], most, spelling, depth);
     let passed = decoder_behind(reader, run.len, spelling, offset);
     (passed, run.count)
-}
-
-/// Takes the title of a tag, an array or a map that the reader has read ahead, if it counts its items, and returns how
-/// many items these are. Otherwise it takes nothing.
-pub(crate) fn pass_title<'a, T: io::Read>(
-    decoder: Decoder<BufferedReader<'a, T>>,
-) -> (Decoder<BufferedReader<'a, T>>, Option<usize>)
-    ensures { PassesTitle ⟦<BufferedReader<'a, T> as Read>⟧ decoder.entry result.1 result.0 }
-{
-    if decoder.is_waiting() {
-        return (decoder, None);
-    }
-    let mut decoder = decoder;
-    let offset = decoder.offset();
-    let spelling = decoder.spelling();
-    let reader = decoder.into_inner();
-    let ahead = reader.buffer();
-    let room = ahead.len().min(usize::MAX - offset);
-    match nest_of(&ahead[..room], spelling) {
-        Some(nest) => {
-            let titled = decoder_behind(reader, nest.len, spelling, offset);
-            (titled, Some(nest.count))
-        }
-        None => (decoder_behind(reader, 0, spelling, offset), None),
-    }
 }

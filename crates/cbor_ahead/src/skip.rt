@@ -1,12 +1,14 @@
 //! Items of a reader that reads ahead, whatever its buffer holds of them.
 
-ghost use Rattle.std.specs.Prelude.{◌≡◌, ◌≤◌, length};
+ghost use Rattle.std.specs.Prelude.{◌≡◌, ◌≤◌, IfSome, Some, length};
 ghost use Rattle.ciborium_ll_grammar.specs.declared.limits.TheConstants.{LEAST_BUFFER, MOST_LEVELS};
+ghost use Rattle.cbor_skip.specs.Due.{item_count};
 ghost use Rattle.cbor_skip.specs.Skipping.{SkipsCounted, SkipsItem};
 
-use crate::pass::{pass_items, pass_title};
-use cbor_skip::{SkipError, skip_item};
+use crate::pass::pass_items;
+use cbor_skip::{SkipError, skip_after, skip_item};
 use ciborium_ll_decoder::dec::Decoder;
+use ciborium_ll_grammar::hdr::Header;
 use ciborium_ll_io::io::Read;
 use ciborium_ll_streams::{BufferedReader, FaultKept};
 use std::io;
@@ -59,7 +61,7 @@ pub fn skip_items<'a, T: io::Read>(
     (decoder, Ok(()))
 }
 
-/// Skips one item as [`skip_items`] does, if the buffer does not hold it: it looks at the items within it alone.
+/// Skips one item as [`skip_items`] does. It reads the title of the item by itself, and looks at the items within it.
 ///
 /// # Errors
 ///
@@ -79,31 +81,30 @@ pub fn skip_one<'a, T: io::Read>(
     ensures skipped { SkipsItem ⟦<BufferedReader<'a, T> as Read>⟧ depth (length buffer.old) decoder.entry
         result.1 result.0 }
 {
-    if nests == 0 || depth == 0 {
-        return skip_slowly(decoder, depth, buffer);
-    }
-    let (titled, within) = pass_title(decoder);
-    match within {
-        Some(count) => skip_items(titled, count, nests - 1, depth - 1, buffer),
-        None => skip_slowly(titled, depth, buffer),
-    }
-}
-
-/// Skips one item by its titles.
-fn skip_slowly<'a, T: io::Read>(
-    decoder: Decoder<BufferedReader<'a, T>>,
-    depth: usize,
-    buffer: &mut [u8],
-) -> (
-    Decoder<BufferedReader<'a, T>>,
-    Result<(), SkipError<FaultKept>>,
-)
-    requires shallow { depth ≤ MOST_LEVELS }
-    requires room { LEAST_BUFFER ≤ length buffer.old }
-    ensures skipped { SkipsItem ⟦<BufferedReader<'a, T> as Read>⟧ depth (length buffer.old) decoder.entry
-        result.1 result.0 }
-{
     let mut decoder = decoder;
-    let outcome = skip_item(&mut decoder, depth, buffer);
+    if nests == 0 || depth == 0 {
+        let outcome = skip_item(&mut decoder, depth, buffer);
+        return (decoder, outcome);
+    }
+    let place = decoder.offset();
+    let header = match decoder.pull() {
+        Ok(header) => header,
+        Err(error) => return (decoder, Err(SkipError::Read(error))),
+    };
+    if let Some(count) = items_after(header) {
+        return skip_items(decoder, count, nests - 1, depth - 1, buffer);
+    }
+    let outcome = skip_after(&mut decoder, header, place, depth, buffer);
     (decoder, outcome)
+}
+/// Returns how many items follow the header, if it is that of a tag, or of an array or a map that counts its items.
+fn items_after(header: Header) -> Option<usize>
+    ensures { IfSome result (λ count. item_count header ≡ Some count) }
+{
+    match header {
+        Header::Tag(_) => Some(1),
+        Header::Array(len) => len,
+        Header::Map(Some(pairs)) if pairs <= usize::MAX / 2 => Some(2 * pairs),
+        _ => None,
+    }
 }

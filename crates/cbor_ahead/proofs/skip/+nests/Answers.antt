@@ -1,5 +1,6 @@
 use Rattle.std.proofs.Common.{◌≡◌, ◌+◌, ◌<◌, length, refl, arith}
-use Rattle.cbor_ahead.proofs.PassLaws.{more_counted, nest_skip, none_counted, one_counted, same_skip, stops_counted}
+use Rattle.cbor_skip.proofs.ItemSteps.{pull_stops}
+use Rattle.cbor_ahead.proofs.PassLaws.{more_counted, nest_skip, none_counted, one_counted, stops_counted}
 use Rattle.cbor_ahead.proofs.skip.+nests.Goals as goal
 
 -- ---- items in a row
@@ -69,19 +70,26 @@ skip_items-returns-clause-none g t c = λ zero.
 
 -- ---- one item
 
+pub skip_one-returns-in-Err : goal.skip_one-returns-in-Err
+skip_one-returns-in-Err g t c = record {
+  skipped = pull_stops _ c.offset-place.ensures.same (rw c.in-Err.is at c.pull.ensures.header);
+}
+
 pub skip_one-returns-in-Some : goal.skip_one-returns-in-Some
 skip_one-returns-in-Some g t c =
-    let takes = rw c.in-Some.is at c.pass_title-titled.ensures in
+    let pulls = rw (c.offset-place.ensures.same, c.in-Ok.is) at c.pull.ensures.header in
+    let moves = rw c.offset-place.ensures.same at c.pull.ensures.moves_on in
+    let counted = rw c.in-Some.is at c.items_after.ensures in
     record {
-      skipped = nest_skip _ c.args.depth (length c.args.buffer.now) c.in-Some.count c.args.decoder
-          c.pass_title-titled.result.0 c.skip_items.result.0 (omega (arith, c.if-depth-eq0.false)) takes
+      skipped = nest_skip _ c.args.depth (length c.args.buffer.now) c.in-Some.count c.args.decoder c.pull.new.self
+          c.skip_items.result.0 c.in-Ok.header (omega (arith, c.if-depth-eq0.false)) counted pulls moves.steady
           c.skip_items.result.1 c.skip_items.ensures.skipped;
     }
 
-pub skip_one-returns-in-None : goal.skip_one-returns-in-None
-skip_one-returns-in-None g t c =
-    let none = rw c.in-None.is at c.pass_title-titled.ensures in
+pub skip_one-returns : goal.skip_one-returns
+skip_one-returns g t c =
+    let pulls = rw (c.offset-place.ensures.same, c.in-Ok.is) at c.pull.ensures.header in
+    let moves = rw c.offset-place.ensures.same at c.pull.ensures.moves_on in
     record {
-      skipped = same_skip _ c.args.depth (length c.args.buffer.now) c.args.decoder c.pass_title-titled.result.0
-          c.skip_slowly-in-None.result.0 none c.skip_slowly-in-None.result.1 c.skip_slowly-in-None.ensures.skipped;
+      skipped = c.skip_after-outcome.ensures.skipped c.args.decoder pulls moves c.offset-place.ensures.value;
     }
