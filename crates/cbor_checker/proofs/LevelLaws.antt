@@ -9,7 +9,7 @@ use Rattle.cbor_checker.specs.declared.level.Level.{Level}
 use Rattle.cbor_checker.specs.declared.level.Level.TheVariants as l
 use Rattle.cbor_parser.specs.declared.strings.Within.{Within}
 use Rattle.cbor_parser.specs.declared.strings.Within.TheVariants as w
-use Rattle.cbor_checker.specs.Levels.{closes, next}
+use Rattle.cbor_checker.specs.Levels.{ends_before, next}
 use Rattle.cbor_checker.specs.Spots.{Spot, settled, string_done}
 use Rattle.cbor_checker.proofs.Waiting.{Takes, EndsLevel, Ends, ItemThen, BreakThen, StringDone, Waits}
 
@@ -37,7 +37,7 @@ module _ (s : Spelling) (f g : Level) (d : ℕ) (Then : List ℕ → Type 0) (go
   level_opens : (n : ℕ) (items e rest y : List ℕ) → AreItems s d n items → Takes f n e → Then rest
       → y ≡ items ++ (e ++ rest) → ItemThen s d (EndsLevel s g d Then) y ⊎ BreakThen g Then y
   level_opens n items e rest y no_items t k is =
-      let end : (closes g ≡ true) × (e ≡ 0xff ∷ []) = grind arith in let there = rw end.1 at is in inr (search)
+      let end : (ends_before g ≡ true) × (e ≡ 0xff ∷ []) = grind arith in let there = rw end.1 at is in inr (search)
   level_opens n items e rest y (more_items {count = m} {title = t} {rest = r} {others = a} {header = x} q v c i) u k
       is =
       let is_item = item_of s d t r x q v c in

@@ -4,7 +4,7 @@ use Rattle.std.proofs.lemmas.Bool.Decides.{nat_tests}
 use Rattle.cbor_checker.specs.declared.level.Level.{Level}
 use Rattle.cbor_checker.specs.declared.phase.Phase.{Phase}
 use Rattle.cbor_parser.specs.declared.strings.Within.{Within}
-use Rattle.cbor_checker.specs.Levels.{closes, next}
+use Rattle.cbor_checker.specs.Levels.{ends_before, next}
 use Rattle.cbor_checker.specs.Stack.{innermost, others}
 use Rattle.cbor_checker.specs.Spots.{Spot, settled, item_done, item_due, nested, broken}
 
@@ -43,10 +43,11 @@ nested_ends s new inner some e is = is ∙ nest_ends s.depth s inner some e
 
 -- ---- a break
 
-broken_by : (levels : List Level) (s new : Spot) (level : Level) → Some level ≡ innermost levels → closes level ≡ true
-    → new ≡ item_done (record s { depth = s.depth + 1; levels = others levels }) → new ≡ broken levels s
+broken_by : (levels : List Level) (s new : Spot) (level : Level) → Some level ≡ innermost levels
+    → ends_before level ≡ true → new ≡ item_done (record s { depth = s.depth + 1; levels = others levels })
+    → new ≡ broken levels s
 broken_by levels s new level e may done = grind (arith, nat_tests, settled_alike)
 
-pub broken_done : (s new : Spot) (level : Level) → Some level ≡ innermost s.levels → closes level ≡ true
+pub broken_done : (s new : Spot) (level : Level) → Some level ≡ innermost s.levels → ends_before level ≡ true
     → new ≡ item_done (record s { depth = s.depth + 1; levels = others s.levels }) → new ≡ broken s.levels s
 broken_done s new level e may done = broken_by s.levels s new level e may done

@@ -14,7 +14,7 @@ use Rattle.cbor_checker.specs.declared.phase.Phase.TheVariants as p
 use Rattle.cbor_parser.specs.declared.strings.Within.{Within}
 use Rattle.cbor_parser.specs.declared.strings.Within.TheVariants as w
 use Rattle.cbor_parser.specs.Strings.{kind_of}
-use Rattle.cbor_checker.specs.Levels.{closes}
+use Rattle.cbor_checker.specs.Levels.{ends_before}
 use Rattle.cbor_checker.specs.Spots.{Spot}
 
 -- A level takes this many items and then this end.
@@ -54,7 +54,7 @@ pub record ItemThen (allowed : Spelling) (depth : ℕ) (Then : List ℕ → Type
 -- A break ends the innermost level, and then come bytes with the property `Then`.
 pub record BreakThen (level : Level) (Then : List ℕ → Type 0) (bytes : List ℕ) : Type 0 where
   pub rest : List ℕ
-  pub may : closes level ≡ true
+  pub may : ends_before level ≡ true
   pub behind : Then rest
   pub is : bytes ≡ 0xff ∷ rest
 

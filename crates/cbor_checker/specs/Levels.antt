@@ -27,9 +27,9 @@ next l.OpenItems = Some l.OpenItems
 next l.OpenPairs = Some l.OpenValue
 next l.OpenValue = Some l.OpenPairs
 
--- A break may stand in place of the item that is due: any item of an open array, or a key of an open map. So `9f ff`
--- and `bf ff` are items, and `bf 01 ff` is not.
-abbrev pub closes : Level → Bool
-closes l.OpenItems = true
-closes l.OpenValue = true
-closes level = false
+-- A nest may end in place of the item that is due before this rest of it: any item of an open array, or a key of an
+-- open map. So `9f ff` and `bf ff` are items, and `bf 01 ff` is not.
+abbrev pub ends_before : Level → Bool
+ends_before l.OpenItems = true
+ends_before l.OpenValue = true
+ends_before level = false

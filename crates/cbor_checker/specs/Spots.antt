@@ -15,7 +15,7 @@ use Rattle.cbor_parser.specs.declared.strings.Within.{Within}
 use Rattle.cbor_parser.specs.declared.strings.Within.TheVariants as w
 use Rattle.cbor_parser.specs.Strings.{within_after}
 use Rattle.cbor_checker.specs.declared.phase.Fault.TheVariants as f
-use Rattle.cbor_checker.specs.Levels.{closes, contents, next}
+use Rattle.cbor_checker.specs.Levels.{contents, ends_before, next}
 
 -- The parts in turn: whether only the shortest spelling is taken, what is due, the bytes of a title that isn't whole,
 -- and the open strings. Then the levels left, the nests around the item (the innermost first), the place that a fault
@@ -81,7 +81,7 @@ nested (suc depth) inner spot = settled depth (inner ∷ spot.levels) spot
 abbrev pub broken : List Level → Spot → Spot
 broken [] spot = at_phase (p.Faulted (f.Break spot.place)) spot
 broken (level ∷ levels) spot =
-    elim (closes level) [
+    elim (ends_before level) [
       | true ↦ settled (suc spot.depth) levels spot
       | false ↦ at_phase (p.Faulted (f.Break spot.place)) spot
     ]

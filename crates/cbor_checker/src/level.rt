@@ -2,7 +2,7 @@
 
 ghost use Rattle.std.specs.Prelude.{◌≡◌, ◌<◌, Some, IfSome};
 ghost use Rattle.cbor_checker.specs.Plain.{counted_behind, lowered};
-ghost use Rattle.cbor_checker.specs.Levels.{closes, contents, next};
+ghost use Rattle.cbor_checker.specs.Levels.{contents, ends_before, next};
 ghost use Rattle.cbor_checker.specs.Snapshots.{level_in};
 
 use ciborium_ll_grammar::hdr::Header;
@@ -85,10 +85,10 @@ impl Level {
         }
     }
 
-    /// Returns whether a break may stand in place of the item that is due.
+    /// Returns whether a break may stand in place of the item that is due before this rest.
     #[inline(always)]
-    pub(crate) fn closes(self) -> bool
-        ensures { result ≡ closes self }
+    pub(crate) fn ends_before(self) -> bool
+        ensures { result ≡ ends_before self }
     {
         matches!(self, Level::OpenItems | Level::OpenValue)
     }

@@ -171,7 +171,7 @@ impl Walk<'_> {
         ensures lent { AreLent self.old.levels self.new.levels }
     {
         match self.levels.innermost() {
-            Some(level) if level.closes() => {
+            Some(level) if level.ends_before() => {
                 self.levels.pop();
                 self.depth += 1;
                 self.item_over()

@@ -3,7 +3,7 @@ use Rattle.std.proofs.Common.{◌≡◌, ℕ, suc, ◌-◌, ◌*◌, ◌%◌, �
 use Rattle.std.proofs.lemmas.Bool.Decides.{nat_tests}
 use Rattle.ciborium_ll_grammar.specs.declared.hdr.Header.{Header}
 use Rattle.ciborium_ll_grammar.specs.declared.hdr.Header.TheVariants as h
-use Rattle.cbor_checker.specs.Levels.{closes, contents, next}
+use Rattle.cbor_checker.specs.Levels.{contents, ends_before, next}
 use Rattle.cbor_checker.specs.Plain.{pairs_of}
 use Rattle.cbor_skip.specs.Due.{IsNest, TakesMore, may_close}
 
@@ -33,7 +33,7 @@ pub reached_next : (x : Header) (n : ℕ) → TakesMore x n → next (reached x 
 reached_next x n takes = grind (arith, nat_tests)
 
 -- A break may stand in place of the next item exactly if `may_close` holds.
-pub reached_closes : (x : Header) (n : ℕ) → TakesMore x n → closes (reached x (suc n)) ≡ may_close x n
+pub reached_closes : (x : Header) (n : ℕ) → TakesMore x n → ends_before (reached x (suc n)) ≡ may_close x n
 reached_closes x n takes = grind (arith, nat_tests)
 
 pub takes_before : (x : Header) (m n : ℕ) → TakesMore x n → m ≤ n → TakesMore x m

@@ -17,7 +17,7 @@ use Rattle.cbor_skip.specs.Due.{ItemDue, here, within, IsTakenInside, ReachesIte
 use Rattle.cbor_checker.specs.declared.phase.Fault.{Fault}
 use Rattle.cbor_parser.specs.declared.strings.Within.{Within}
 use Rattle.cbor_parser.specs.declared.strings.Within.TheVariants as w
-use Rattle.cbor_checker.specs.Levels.{closes}
+use Rattle.cbor_checker.specs.Levels.{ends_before}
 use Rattle.cbor_checker.specs.Spots.{Spot}
 use Rattle.cbor_checker_laws.proofs.Levels.{Level, reached, reached_closes, takes_before, takes_nest}
 use Rattle.cbor_checker_laws.proofs.Runs.{Runs, On, at, inside}
@@ -28,7 +28,7 @@ use Rattle.cbor_checker_laws.proofs.ItemRuns.{nest_begun, nest_due, items_on}
 -- Whether a break may stand in place of an item that is due in these nests.
 abbrev pub can_close : List Level → Bool
 can_close [] = false
-can_close (g ∷ gs) = closes g
+can_close (g ∷ gs) = ends_before g
 
 module _ (fault : Fault) (all : ℕ) (s : Spelling) where
   -- An item to `depth` levels is due, and `closable` says whether a break may stand in its place.
