@@ -1,3 +1,2 @@
-mod DepthLaws
 mod PromptLaws
 mod RawLaws

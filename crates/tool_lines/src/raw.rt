@@ -6,7 +6,6 @@ ghost use Rattle.tool_lines.specs.Raw.{flushed_outcome};
 ghost use Rattle.tool_lines.specs.Restoring.{Restores, RestoresCopy, RestoresFlush};
 
 use crate::ahead::ReadAhead;
-use crate::copy::BUFFER_SIZE;
 use ciborium_ll_decoder::dec::{Decoder, Error};
 use ciborium_ll_encoder::enc::Encoder;
 use ciborium_ll_io::io::{Read, Write};
@@ -16,6 +15,9 @@ use std::io;
 
 /// How many bytes a buffered copy reads ahead, and how many it keeps back, at most.
 pub const ROOM: usize = 8192;
+
+/// How many bytes of a string are copied at a time, at most.
+const BUFFER_SIZE: usize = 64;
 
 /// Copies `count` elements through 64 bytes. It returns the reader and the writer, and flushes nothing.
 fn copy_elements<R: Read, W: Write>(

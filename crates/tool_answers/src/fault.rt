@@ -1,7 +1,7 @@
 //! The messages of the program when it fails.
 
 ghost use Rattle.std.specs.Prelude.{◌≡◌};
-ghost use Rattle.tool_lines.specs.Fault.{fault_of, fault_of_copy};
+ghost use Rattle.tool_answers.specs.Fault.{fault_of, fault_of_copy};
 
 use ciborium_ll_decoder::copy::RecodeError;
 use ciborium_ll_decoder::dec::Error;
@@ -27,7 +27,7 @@ pub enum Fault {
 
 impl fmt::Display for Fault {
     ghost use Rattle.std.specs.Prelude.{Some};
-    ghost use Rattle.tool_lines.specs.Fault.{fault_text};
+    ghost use Rattle.tool_answers.specs.Fault.{fault_text};
 
     ghost output = { λ fault. Some (fault_text fault) };
 
@@ -57,7 +57,7 @@ pub enum ToolError {
 
 impl From<AllocError> for ToolError {
     ghost use Rattle.std.specs.Prelude.{◌≡◌};
-    ghost use Rattle.tool_lines.specs.declared.fault.ToolError.TheVariants.{Memory};
+    ghost use Rattle.tool_answers.specs.declared.fault.ToolError.TheVariants.{Memory};
 
     ghost from_gives = { λ _ error. error ≡ Memory };
 
@@ -76,7 +76,7 @@ impl From<LineError> for ToolError {
 }
 
 impl From<WriteFault> for ToolError {
-    ghost use Rattle.tool_lines.specs.Fault.{IsWriteError};
+    ghost use Rattle.tool_answers.specs.Fault.{IsWriteError};
 
     ghost from_gives = { λ fault error. IsWriteError fault error };
 
@@ -89,7 +89,7 @@ impl From<WriteFault> for ToolError {
 }
 
 impl fmt::Display for ToolError {
-    ghost use Rattle.tool_lines.specs.Fault.{tool_error_text};
+    ghost use Rattle.tool_answers.specs.Fault.{tool_error_text};
 
     ghost output = { tool_error_text };
 

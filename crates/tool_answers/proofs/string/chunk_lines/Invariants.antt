@@ -1,6 +1,6 @@
 use Rattle.std.proofs.Common.{◌≡◌, ◌+◌, ◌*◌, cond}
 use Rattle.ciborium_ll_decoder.specs.Chunks.{left_of}
-use Rattle.tool_lines.proofs.string.chunk_lines.Given as goal
+use Rattle.tool_answers.proofs.string.chunk_lines.Given as goal
 
 abbrev pub invariant-chunks : goal.invariant-chunks
 invariant-chunks g l = l.segment.decoder.ghost_name ≡ l.initial.segment.decoder.ghost_name

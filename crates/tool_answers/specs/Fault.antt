@@ -1,9 +1,9 @@
 -- The texts of the program about an error.
 use Rattle.std.specs.Prelude.{◌≡◌, ℕ, List, ◌++◌, Option, Some, None, codes, decimal}
-use Rattle.tool_lines.specs.declared.fault.Fault.{Fault}
-use Rattle.tool_lines.specs.declared.fault.Fault.TheVariants as f
-use Rattle.tool_lines.specs.declared.fault.ToolError.{ToolError}
-use Rattle.tool_lines.specs.declared.fault.ToolError.TheVariants as e
+use Rattle.tool_answers.specs.declared.fault.Fault.{Fault}
+use Rattle.tool_answers.specs.declared.fault.Fault.TheVariants as f
+use Rattle.tool_answers.specs.declared.fault.ToolError.{ToolError}
+use Rattle.tool_answers.specs.declared.fault.ToolError.TheVariants as e
 use Rattle.ciborium_ll_decoder.specs.declared.dec.Error.TheVariants as d
 use Rattle.ciborium_ll_streams.specs.declared.streams.ReadFault.{ReadFault}
 use Rattle.ciborium_ll_streams.specs.declared.streams.WriteFault.{WriteFault}

@@ -1,6 +1,6 @@
 //! Answers to requests, as lines of text.
 
-ghost use Rattle.tool_lines.specs.Depth.{IsWithinDepth};
+ghost use Rattle.tool_answers.specs.Depth.{IsWithinDepth};
 
 use crate::{copy, head, skip, string, value};
 use std::alloc::{AllocError, Global};

@@ -2,7 +2,7 @@
 
 ghost use Rattle.std.specs.Prelude.{IfOk};
 ghost use Rattle.ciborium_ll_grammar.specs.Strings.{Bytes as byte_strings, Text as text_strings};
-ghost use Rattle.tool_lines.specs.Value.{IsValueSpelling};
+ghost use Rattle.tool_answers.specs.Value.{IsValueSpelling};
 
 use ciborium_ll_encoder::enc::Encoder;
 use ciborium_ll_streams::{OutOfMemory, VecWriter};

@@ -1,5 +1,5 @@
 use Rattle.std.proofs.Common.{◌≡◌, []}
-use Rattle.tool_lines.proofs.value.spelled_bytes.Goals as goal
+use Rattle.tool_answers.proofs.value.spelled_bytes.Goals as goal
 
 pub returns : goal.returns
 returns c =

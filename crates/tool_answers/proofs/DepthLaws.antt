@@ -3,7 +3,7 @@ use Rattle.tool_requests.specs.Request.{Asks}
 use Rattle.tool_requests.specs.declared.request.Request.{Request}
 use Rattle.tool_requests.specs.declared.request.Request.TheVariants.{Bytes, Chunks, Heads, Recode, Skip}
 use Rattle.tool_requests.specs.declared.request.Request.TheVariants.{Strict, Text}
-use Rattle.tool_lines.specs.Depth.{IsWithinDepth}
+use Rattle.tool_answers.specs.Depth.{IsWithinDepth}
 
 -- The number of a skip is at most the greatest depth that a line may ask for.
 pub within_depth : (line : List ℕ) (request : Request) → Asks line request → IsWithinDepth request

@@ -1,0 +1,3 @@
+pub mod Depth
+pub mod Fault
+pub mod Value
