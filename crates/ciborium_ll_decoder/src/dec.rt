@@ -44,7 +44,7 @@ impl<T> From<T> for Error<T> {
 pub struct Decoder<R> {
     reader: R,
     offset: usize,
-    waiting: Option<Header>,
+    pub(crate) waiting: Option<Header>,
     spelling: Spelling,
     refusals: Failures,
     ghost covered: { offset + waiting_len waiting < 2 ^ 64 },
@@ -57,7 +57,7 @@ impl<R: Read> From<R> for Decoder<R> {
 
     /// Makes a decoder at the offset 0.
     fn from(reader: R) -> Decoder<R> {
-        Decoder::with_offset(reader, 0)
+        Decoder::with_spelling(reader, Spelling::Any, 0)
     }
 }
 
@@ -174,26 +174,9 @@ impl<R: Read> Decoder<R> {
         Ok(header)
     }
 
-    /// Takes the next header, and returns it with a title of it in parts: the title that was read, or the shortest
-    /// title of a waiting header.
-    #[inline(always)]
-    pub(crate) fn pull_title(&mut self) -> Result<(Header, Title), Error<R::Error>>
-        ensures header { MatchResult result (λ pulled. PullsTitle R.Read self.old pulled.0 self.new)
-            (λ error. DecoderPullAnswer R.Read self.old (Err error) self.new) }
-        ensures parts { IfOk result (λ pulled. IsParts pulled.1) }
-        ensures title { IfOk result (λ pulled. IsTitle (title_bytes pulled.1) pulled.0) }
-        ensures full { waiting_of self.old ≡ None → offset_of self.old ≡ usize.MAX → IsErrOf result Error.TooLong }
-        ensures moves_on { MovesOn R.Read self.old self.new }
-    {
-        if let Some(header) = self.waiting {
-            return Ok(self.pull_waiting(header));
-        }
-        self.title()
-    }
-
     /// Reads the next title, and returns the header that it means and its parts.
     #[inline(always)]
-    fn title(&mut self) -> Result<(Header, Title), Error<R::Error>>
+    pub(crate) fn title(&mut self) -> Result<(Header, Title), Error<R::Error>>
         requires none_waits { waiting_of self.old ≡ None }
         ensures header { MatchResult result (λ pulled. PullsTitle R.Read self.old pulled.0 self.new)
             (λ error. DecoderPullAnswer R.Read self.old (Err error) self.new) }
@@ -224,7 +207,7 @@ impl<R: Read> Decoder<R> {
     /// title that is read.
     #[cold]
     #[inline(never)]
-    fn pull_waiting(&mut self, header: Header) -> (Header, Title)
+    pub(crate) fn pull_waiting(&mut self, header: Header) -> (Header, Title)
         requires waits { waiting_of self.old ≡ Some header }
         ensures header { PullsTitle R.Read self.old result.0 self.new }
         ensures parts { IsParts result.1 }

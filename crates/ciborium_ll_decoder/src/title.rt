@@ -12,5 +12,8 @@ use ciborium_ll_io::io::Read;
 pub fn pull_title<R: Read>(decoder: &mut Decoder<R>) -> Result<(Header, Title), Error<R::Error>>
     ensures { DecoderPullTitle R.Read decoder.old result decoder.new }
 {
-    decoder.pull_title()
+    if let Some(header) = decoder.waiting {
+        return Ok(decoder.pull_waiting(header));
+    }
+    decoder.title()
 }
