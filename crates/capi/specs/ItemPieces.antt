@@ -1,5 +1,6 @@
 -- The results of the calls of a copier of items. C keeps the copier in memory of its own.
 use Rattle.std.specs.Prelude.{◌≡◌, ◌+◌, ◌<◌, ◌≤◌, ℕ, List, [], ◌++◌, length, take}
+use Rattle.ciborium_ll_grammar.specs.declared.limits.TheConstants.{LONGEST_AFFIX}
 use Rattle.ciborium_ll_grammar.specs.declared.spelling.Spelling.{Spelling}
 use Rattle.cbor_item_copier.specs.declared.copier.ItemCopier.{ItemCopier}
 use Rattle.cbor_item_copier.specs.declared.progress.Progress.{Progress}
@@ -15,6 +16,7 @@ use Rattle.capi.specs.declared.answer.CllAnswer.{CllAnswer}
 use Rattle.capi.specs.declared.answer.CllAnswer.TheVariants as a
 use Rattle.capi.specs.declared.answer.CllReport.{CllReport}
 use Rattle.capi.specs.declared.item_copier.CllItemCopier.{CllItemCopier}
+use Rattle.capi.specs.declared.item_copier.TheConstants.{MARK}
 use Rattle.capi.specs.Answers.{Reports}
 use Rattle.capi.specs.Feeding.{fault_answer, fault_place}
 
@@ -23,12 +25,12 @@ use Rattle.capi.specs.Feeding.{fault_answer, fault_place}
 -- with room for it, it holds a copier that has read and written `82 01`.
 pub record IsItemCopyKept (allowed : Spelling) (depth : ℕ) (read written : List ℕ) (copier : CllItemCopier) : Type 0
   where
-    pub mark : copier.mark ≡ 8029466375530767725
+    pub mark : copier.mark ≡ MARK
     pub state : Keeps allowed depth read written copier.state
 
 -- This memory holds a copier of an item, even if no bytes lead to its state. With the mark 0 it does not.
 pub record IsItemCopier (copier : CllItemCopier) : Type 0 where
-  pub mark : copier.mark ≡ 8029466375530767725
+  pub mark : copier.mark ≡ MARK
   pub state : HoldsSome copier.state
 
 -- This memory holds no copier of an item. Memory with the mark 0 holds none.
@@ -117,7 +119,7 @@ pub record FeedsItem (allowed : Spelling) (depth : ℕ) (read written bytes out 
   pub is_kept : IsItemCopyKept allowed depth (read ++ take report.consumed bytes)
       (written ++ take report.written output) new
   pub fits : (copier : ItemCopier) → HasCopied allowed depth read written copier → pending copier ≡ []
-      → length bytes + 8 ≤ length out → answer ≡ a.Room → ⊥
+      → length bytes + LONGEST_AFFIX ≤ length out → answer ≡ a.Room → ⊥
   pub answers : (answer ≡ a.TooLong → ⊥) → (copier : ItemCopier)
       → HasCopied allowed depth (read ++ take report.consumed bytes) (written ++ take report.written output) copier
       → IsItemAnswer answer report.place copier

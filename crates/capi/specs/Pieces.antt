@@ -1,5 +1,6 @@
 -- The results of the calls of a copier. C keeps the copier in memory of its own.
 use Rattle.std.specs.Prelude.{◌≡◌, ◌+◌, ◌<◌, ◌≤◌, ◌↔◌, ℕ, List, [], ◌++◌, drop, length, take}
+use Rattle.ciborium_ll_grammar.specs.declared.limits.TheConstants.{LONGEST_AFFIX}
 use Rattle.ciborium_ll_grammar.specs.declared.spelling.Spelling.{Spelling}
 use Rattle.cbor_copier.specs.declared.copier.Copier.{Copier}
 use Rattle.cbor_copier.specs.declared.progress.Progress.{Progress}
@@ -12,18 +13,19 @@ use Rattle.capi.specs.declared.answer.CllAnswer.{CllAnswer}
 use Rattle.capi.specs.declared.answer.CllAnswer.TheVariants as a
 use Rattle.capi.specs.declared.answer.CllReport.{CllReport}
 use Rattle.capi.specs.declared.copier.CllCopier.{CllCopier}
+use Rattle.capi.specs.declared.copier.TheConstants.{MARK}
 use Rattle.capi.specs.Answers.{Reports}
 
 -- This memory holds a copier of `count` elements, for `Shortest` in their shortest spelling, which has read and written
 -- exactly these bytes. The mark is "elements" in ASCII. After `cll_copier_feed` took `18 01` in a room of 1, it holds
 -- one for any spelling that has read `18 01` and written `01`.
 pub record IsCopyKept (allowed : Spelling) (count : ℕ) (read written : List ℕ) (copier : CllCopier) : Type 0 where
-  pub mark : copier.mark ≡ 7308327815843050611
+  pub mark : copier.mark ≡ MARK
   pub state : Keeps allowed count read written copier.state
 
 -- This memory holds a copier, even if no bytes lead to its state. With the mark 0 it does not.
 pub record IsCopier (copier : CllCopier) : Type 0 where
-  pub mark : copier.mark ≡ 7308327815843050611
+  pub mark : copier.mark ≡ MARK
   pub state : HoldsSome copier.state
 
 -- This memory holds no copier. Memory with the mark 0 holds none.
@@ -115,7 +117,7 @@ pub record FeedsCopied (allowed : Spelling) (count : ℕ) (read written bytes ou
   pub is_kept : IsCopyKept allowed count (read ++ take report.consumed bytes) (written ++ take report.written output)
       new
   pub fits : (copier : Copier) → HasCopied allowed count read written copier → pending copier ≡ []
-      → length bytes + 8 ≤ length out → answer ≡ a.Room → ⊥
+      → length bytes + LONGEST_AFFIX ≤ length out → answer ≡ a.Room → ⊥
   pub answers : (answer ≡ a.TooLong → ⊥) → (copier : Copier)
       → HasCopied allowed count (read ++ take report.consumed bytes) (written ++ take report.written output) copier
       → IsAnswer answer report.place copier

@@ -1,7 +1,7 @@
 //! Elements that are copied in runs, or otherwise one by one, and counted.
 
-ghost use Rattle.std.specs.Prelude.{◌≡◌, ◌+◌, ◌<◌, ◌≤◌, ◌^◌, ℕ, [], None, Some, MatchResult, length};
-ghost use Rattle.ciborium_ll.specs.Decoding.{IsSteady, offset_of, reader_of, waiting_of};
+ghost use Rattle.std.specs.Prelude.{◌≡◌, ◌+◌, ◌<◌, ◌≤◌, ℕ, [], None, Some, MatchResult, length};
+ghost use Rattle.ciborium_ll.specs.Decoding.{IsSteady, offset_limit, offset_of, reader_of, waiting_of};
 ghost use Rattle.ciborium_ll.specs.Recoding.{CopiesElements, CopiesOne, CopiesRun, IsBehind, StopsCopy};
 ghost use Rattle.ciborium_ll.specs.Sides.{Sides, sides};
 ghost use Rattle.capi.specs.Counting.{CountsCopy};
@@ -89,7 +89,7 @@ fn copy_run<R: Read, W: Bounded + Drop>(
     requires steady { IsSteady R.Read decoder.old }
     requires ahead { R.Read.ahead (reader_of decoder.old) ≡ Some ahead.now }
     requires none_waits { waiting_of decoder.old ≡ None }
-    requires fits { offset_of decoder.old + length ahead.now < 2 ^ 64 }
+    requires fits { offset_of decoder.old + length ahead.now < offset_limit }
     ensures run { MatchResult result (λ copied. (copied ≤ most)
         × CopiesRun R.Read W.Write copied (sides decoder.old writer.old) (sides decoder.new writer.new)) (λ error. ⊥) }
     ensures target { W.target writer.new ≡ W.target writer.old }
@@ -120,7 +120,7 @@ fn copy_next<R: Read, W: Bounded + Drop>(
     requires steady { IsSteady R.Read decoder.old }
     requires ahead { R.Read.ahead (reader_of decoder.old) ≡ Some ahead.now }
     requires none_waits { waiting_of decoder.old ≡ None }
-    requires fits { offset_of decoder.old + length ahead.now < 2 ^ 64 }
+    requires fits { offset_of decoder.old + length ahead.now < offset_limit }
     ensures copied { MatchResult result (λ copied. (0 < copied) × (copied ≤ most)
         × CopiesRun R.Read W.Write copied (sides decoder.old writer.old) (sides decoder.new writer.new))
         (λ error. (count before : ℕ) (first : Sides R W)

@@ -1,7 +1,8 @@
 //! Titles one after the other, each with its place, and the bodies that the call passes over.
 
-ghost use Rattle.std.specs.Prelude.{◌≡◌, ◌≢◌, ◌↔◌, ◌+◌, ◌<◌, ◌≤◌, ◌^◌, ℕ, List, MatchOption, drop, length};
+ghost use Rattle.std.specs.Prelude.{◌≡◌, ◌≢◌, ◌↔◌, ◌+◌, ◌<◌, ◌≤◌, ℕ, List, MatchOption, drop, length};
 ghost use Rattle.ciborium_ll.specs.Types.Header.{Header as AnyHeader};
+ghost use Rattle.ciborium_ll.specs.Decoding.{offset_limit};
 ghost use Rattle.capi.specs.declared.answer.CllAnswer.TheVariants as a;
 ghost use Rattle.capi.specs.declared.titles.CllTitle.{CllTitle as AnyTitle};
 ghost use Rattle.capi.specs.Headers.{Says};
@@ -67,7 +68,7 @@ fn body_len(header: CllHeader, rest: &[u8]) -> Option<usize>
 /// the title, and the length of both.
 #[inline(always)]
 fn read_title(bytes: &[u8], start: usize) -> Option<(CllTitle, usize)>
-    requires { start + length bytes.now < 2 ^ 64 }
+    requires { start + length bytes.now < offset_limit }
     ensures { MatchOption result (BeginsWithBody bytes.now → ⊥) (λ read. ReadsTitle bytes.now start read.0 read.1) }
 {
     let mut header = CllHeader {

@@ -1,5 +1,6 @@
 -- How many bytes of a title or of a character are held back at most.
 use Rattle.std.specs.Prelude.{ℕ, zero, suc, ◌-◌, ◌%◌, Bool, true, false, List, slice_index}
+use Rattle.ciborium_ll_grammar.specs.declared.limits.TheConstants.{LONGEST_AFFIX}
 use Rattle.ciborium_ll_grammar.specs.Title.{affix_len}
 use Rattle.ciborium_ll_text.specs.declared.state.State.{State}
 use Rattle.ciborium_ll_text.specs.declared.state.State.TheVariants as s
@@ -15,11 +16,11 @@ most_cut s.Damaged = 0
 most_cut state = 4 - tail_due state
 
 -- How many bytes of a title or a character are held back at most. For a title it is the length of the affix that its
--- first byte announces (RFC 7049, 2.1): two for `19`. At a fault it is 8, the longest affix.
+-- first byte announces (RFC 7049, 2.1): two for `19`. At a fault it is that of the longest affix.
 abbrev pub most_front : Phase → List ℕ → ℕ
 most_front p.Title front = affix_len (slice_index front 0 % 32)
 most_front (p.Text left state) front = most_cut state
-most_front (p.Faulted place) front = 8
+most_front (p.Faulted place) front = LONGEST_AFFIX
 most_front phase front = 0
 
 -- If a body is due, it has bytes left: so it is with `Bytes(2)` after `42` and with `Title`, and not with `Bytes(0)`.

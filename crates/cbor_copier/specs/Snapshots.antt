@@ -1,5 +1,6 @@
 -- A spot as plain numbers, which a caller keeps in its own memory.
 use Rattle.std.specs.Prelude.{◌≡◌, ◌==◌, ◌≤◌, ℕ, true, List, length, take, Option, Some, None, if◌then◌else◌}
+use Rattle.ciborium_ll_grammar.specs.declared.limits.TheConstants.{LONGEST_TITLE}
 use Rattle.ciborium_ll_text.specs.declared.state.State.{State}
 use Rattle.ciborium_ll_text.specs.Numbers.{state_in}
 use Rattle.cbor_copier.specs.declared.phase.Phase.{Phase}
@@ -37,9 +38,9 @@ front_in snapshot = take snapshot.front_len snapshot.front
 pub record IsState (snapshot : Snapshot) (phase : Phase) (within : Within) : Type 0 where
   pub some : has_left phase ≡ true
   pub counted : open_count within ≤ snapshot.offset
-  pub long : snapshot.front_len ≤ 9
+  pub long : snapshot.front_len ≤ LONGEST_TITLE
   pub room : length (front_in snapshot) ≤ most_front phase (front_in snapshot)
-  pub few : snapshot.pending_len ≤ 9
+  pub few : snapshot.pending_len ≤ LONGEST_TITLE
 
 -- The plain numbers are those of this spot. After `18` they are, among others, the phase 1, the byte `18` held back,
 -- and the offset 1.

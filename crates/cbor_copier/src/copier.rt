@@ -4,6 +4,7 @@ ghost use Rattle.std.specs.Prelude.{◌≡◌, ◌≢◌, ◌+◌, ◌<◌, ◌�
 ghost use Rattle.cbor_copier.specs.Fronts.{has_left, most_front};
 ghost use Rattle.cbor_copier.specs.Spots.{IsPutOut};
 ghost use Rattle.cbor_parser.specs.Strings.{open_count, within_after};
+ghost use Rattle.ciborium_ll_grammar.specs.declared.limits.TheConstants.{LONGEST_AFFIX};
 ghost use Rattle.ciborium_ll_text.specs.States.{may_end};
 
 use crate::pending::Pending;
@@ -585,7 +586,7 @@ impl Copier {
         ensures all { IsMore result.progress → result.taken ≡ length bytes.now }
         ensures long { result.progress ≡ r.TooLong → result.taken < length bytes.now }
         ensures full { IsRoom result.progress → result.written ≡ length out.old }
-        ensures fits { self.old.pending ≡ [] → length bytes.now + 8 ≤ length out.old → IsRoom result.progress → ⊥ }
+        ensures fits { self.old.pending ≡ [] → length bytes.now + LONGEST_AFFIX ≤ length out.old → IsRoom result.progress → ⊥ }
         ensures grown { result.written + length self.new.pending + length self.new.front
             ≤ length self.old.pending + length self.old.front + result.taken }
         ensures stays { is_due self.old.phase ≡ false → self.old.pending ≡ []
@@ -659,7 +660,7 @@ impl Copier {
         ensures long { result.progress ≡ r.TooLong → result.taken < length bytes.now }
         ensures full { IsRoom result.progress → result.written ≡ length out.old }
         ensures none { (IsRoom result.progress → ⊥) → pending self.new ≡ [] }
-        ensures fits { pending self.old ≡ [] → length bytes.now + 8 ≤ length out.old → IsRoom result.progress → ⊥ }
+        ensures fits { pending self.old ≡ [] → length bytes.now + LONGEST_AFFIX ≤ length out.old → IsRoom result.progress → ⊥ }
         ensures grown { result.written + held self.new ≤ held self.old + result.taken }
         ensures stays { (progress : Progress) → Answers self.old progress → IsLast progress
             → (result.taken ≡ 0) × (result.written ≡ 0) × (result.progress ≡ progress) × Answers self.new progress }

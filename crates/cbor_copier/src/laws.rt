@@ -3,6 +3,7 @@
 ghost use Rattle.std.specs.Prelude.{ℕ, ◌≡◌, ◌≢◌, ◌+◌, ◌≤◌, ◌++◌, ◌↔◌, List, [], length};
 ghost use Rattle.ciborium_ll_grammar.specs.declared.spelling.Spelling.{Spelling};
 ghost use Rattle.ciborium_ll_grammar.specs.declared.spelling.Spelling.TheVariants.{Shortest};
+ghost use Rattle.ciborium_ll_grammar.specs.declared.limits.TheConstants.{LONGEST_AFFIX};
 ghost use Rattle.ciborium_ll_grammar.specs.Title.{AreBytes};
 ghost use Rattle.ciborium_ll_grammar.specs.Elements.{Mark, spelling};
 ghost use Rattle.cbor_copier.specs.Copying.{Answers, AnswersEnd, HasCopied, HoldsSome, Keeps, Saves, held, pending};
@@ -73,12 +74,12 @@ pub fn joined_pieces()
         → Copies allowed count read written (one ++ two) put copied }
 {}
 
-/// A copier that has read no byte has written none, and holds none. If nothing is pending, a copier holds at most eight
-/// bytes back. The pending bytes are among those that are held.
+/// A copier that has read no byte has written none, and holds none. If nothing is pending, a copier holds back at most
+/// `LONGEST_AFFIX` bytes, which is 8. The pending bytes are among those that are held.
 pub fn few_held()
     ensures none { (allowed : Spelling) (count : ℕ) (written : List ℕ) (copier : Copier)
         → HasCopied allowed count [] written copier → (written ≡ []) × (pending copier ≡ []) × (held copier ≡ 0) }
-    ensures few { (copier : Copier) → pending copier ≡ [] → held copier ≤ 8 }
+    ensures few { (copier : Copier) → pending copier ≡ [] → held copier ≤ LONGEST_AFFIX }
     ensures some { (copier : Copier) → length (pending copier) ≤ held copier }
 {}
 

@@ -3,6 +3,7 @@
 ghost use Rattle.std.specs.Prelude.{◌≡◌, ◌<◌, ◌≤◌, ◌++◌, [], negsuc, decimal, if◌then◌else◌};
 ghost use Rattle.std.specs.Fmt.{signed_decimal};
 ghost use Rattle.ciborium_ll.specs.Encoding.{WritesBytes};
+ghost use Rattle.cbor_diag.specs.declared.scalars.TheConstants.{EXPONENTS, FRACTION_BITS};
 ghost use Rattle.cbor_diag.specs.Floats.{IsFloatText, IsShownFloat, bits_text, digits_text, has_payload, holds, is_held};
 ghost use Rattle.cbor_diag.specs.Notation.{name_text, simple_notation};
 ghost use Rattle.cbor_diag.specs.Marks.{mark_text};
@@ -17,6 +18,12 @@ use ciborium_ll::io::Write;
 use ciborium_ll::{Float, simple};
 use itoa::Buffer;
 use std::num::f64_to_bits_with_nan;
+
+/// How many bits the fraction of a double has (IEEE 754, binary64).
+const FRACTION_BITS: u64 = 52;
+
+/// How many values the field of a double's exponent has (IEEE 754, binary64).
+const EXPONENTS: u64 = 0x800;
 
 /// Shows an integer that is not negative, and the mark of its title.
 pub(crate) fn show_positive<W: Write>(
@@ -168,7 +175,7 @@ fn show_value<W: Write>(writer: &mut W, float: Float) -> Result<(), W::Error>
 
 /// Returns the mark if the width holds the double too, and otherwise nothing.
 fn mark<'a>(double: u64, width: Width, mark: &'a [u8]) -> &'a [u8]
-    requires narrow { width.digits ≤ 52 }
+    requires narrow { width.digits ≤ FRACTION_BITS }
     ensures { result.now ≡ (if holds width double then mark.now else []) }
 {
     if holds(double, width) { mark } else { b"" }
@@ -176,20 +183,20 @@ fn mark<'a>(double: u64, width: Width, mark: &'a [u8]) -> &'a [u8]
 
 /// Returns whether a float of the width has the value of the double.
 fn holds(double: u64, width: Width) -> bool
-    requires narrow { width.digits ≤ 52 }
+    requires narrow { width.digits ≤ FRACTION_BITS }
     ensures { result ≡ holds width double }
 {
     is_held(
         width,
-        double / 0x10_0000_0000_0000 % 0x800,
+        double / 0x10_0000_0000_0000 % EXPONENTS,
         double % 0x10_0000_0000_0000,
     )
 }
 
 /// Returns whether a float of the width has the value of the double with this exponent and fraction.
 fn is_held(width: Width, exponent: u64, fraction: u64) -> bool
-    requires narrow { width.digits ≤ 52 }
-    requires exponent { exponent < 2048 }
+    requires narrow { width.digits ≤ FRACTION_BITS }
+    requires exponent { exponent < EXPONENTS }
     ensures { result ≡ is_held width exponent fraction }
 {
     if exponent == 0x7ff {
@@ -202,7 +209,7 @@ fn is_held(width: Width, exponent: u64, fraction: u64) -> bool
         return false;
     }
     // Below its least exponent a width has one bit less for each step.
-    let lost = (52 - width.digits) + width.least.saturating_sub(exponent);
+    let lost = (FRACTION_BITS - width.digits) + width.least.saturating_sub(exponent);
     fraction % 2u64.pow(lost as u32) == 0
 }
 

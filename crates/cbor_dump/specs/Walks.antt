@@ -5,6 +5,7 @@ use Rattle.ciborium_ll_grammar.specs.declared.spelling.Spelling.{Spelling}
 use Rattle.ciborium_ll.specs.Types.Header.{Header}
 use Rattle.ciborium_ll.specs.Types.Header.TheVariants as h
 use Rattle.ciborium_ll.specs.Items.{IsItem}
+use Rattle.ciborium_ll.specs.Limits.{MOST_LEVELS}
 use Rattle.cbor_skip.specs.declared.remaining.Remaining.{Remaining}
 use Rattle.cbor_skip.specs.declared.remaining.Remaining.TheVariants as r
 use Rattle.cbor_skip.specs.Remaining.{IsRemaining, is_done}
@@ -63,9 +64,9 @@ pub record KeepsNests (depth : ℕ) (walk : Walk) (nests : List Nest) : Type 0 w
   pub kept : AreKept walk.levels nests
   pub used : walk.used ≡ length nests
   pub same_depth : walk.depth ≡ depth
-  pub room : length walk.levels ≡ 256
+  pub room : length walk.levels ≡ MOST_LEVELS
   pub placed : AreAt walk.indexes nests
-  pub wide : length walk.indexes ≡ 256
+  pub wide : length walk.indexes ≡ MOST_LEVELS
 
 -- After the bytes, which have `whole` whole items, an item is due within the nests that the walk keeps. All stand in
 -- any spelling, or all in the shortest one. After `01 82` one item is whole, and the walk keeps one nest.

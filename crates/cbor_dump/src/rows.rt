@@ -5,6 +5,7 @@ ghost use Rattle.std.specs.Fmt.{DisplaysOnOk, DisplaysStyledOnOk, WritesOnOk, si
 ghost use Rattle.std.specs.Str.{chars};
 ghost use Rattle.std.specs.declared.option.Option.{Option};
 ghost use Rattle.ciborium_ll_text.specs.Digits.{hex_text};
+ghost use Rattle.cbor_dump.specs.declared.rows.TheConstants.{KEY_COLUMNS};
 ghost use Rattle.cbor_dump.specs.Levels.{Line};
 ghost use Rattle.cbor_dump.specs.Dumps.{Draws};
 ghost use Rattle.cbor_dump.specs.RowTexts.{ArePlain, blank, character_text, characters_text, counted_text, digits_text};
@@ -326,7 +327,7 @@ fn deep<W: fmt::Write>(f: &mut fmt::Formatter<W>, level: usize) -> fmt::Result
 
 /// Returns how many columns a string that is shown as a key has at most, without its quotes.
 fn key_columns(level: usize, header: Header) -> usize
-    ensures most { result ≤ 22 }
+    ensures most { result ≤ KEY_COLUMNS }
     ensures value { result ≡ key_columns level header }
 {
     let columns = if level > MOST_INDENT {
@@ -353,7 +354,7 @@ fn character_len(c: char) -> usize
 
 /// Returns whether the characters of a text have at most `most` bytes between quotes.
 fn has_columns(text: &str, most: usize) -> bool
-    requires few { most ≤ 22 }
+    requires few { most ≤ KEY_COLUMNS }
     ensures { result ≡ nat_le (length (characters_text (chars text.now))) most }
 {
     let mut len = 0usize;
@@ -365,7 +366,7 @@ fn has_columns(text: &str, most: usize) -> bool
 
 /// Writes the text of a key, if the columns have room for it.
 fn text_key<W: fmt::Write>(f: &mut fmt::Formatter<W>, bytes: &[u8], most: usize) -> fmt::Result
-    requires few { most ≤ 22 }
+    requires few { most ≤ KEY_COLUMNS }
     ensures { WritesOnOk W.Write.write_str_gives f.old result (text_key most bytes.now) f.new }
 {
     if !has_columns(str::from_utf8(bytes).unwrap_or(""), most) {
@@ -395,7 +396,7 @@ fn has_number(number: u64, most: usize) -> bool
 
 /// Writes a key, or two points if the columns have no room for it.
 fn named<W: fmt::Write>(f: &mut fmt::Formatter<W>, key: &Key, most: usize) -> fmt::Result
-    requires few { most ≤ 22 }
+    requires few { most ≤ KEY_COLUMNS }
     ensures { WritesOnOk W.Write.write_str_gives f.old result (key_text most key.now) f.new }
 {
     match key {
@@ -409,7 +410,7 @@ fn named<W: fmt::Write>(f: &mut fmt::Formatter<W>, key: &Key, most: usize) -> fm
 
 /// Writes the place of a title, if it has one.
 fn place<W: fmt::Write>(f: &mut fmt::Formatter<W>, within: &Within, most: usize) -> fmt::Result
-    requires few { most ≤ 22 }
+    requires few { most ≤ KEY_COLUMNS }
     ensures { WritesOnOk W.Write.write_str_gives f.old result (within_text most within.now) f.new }
 {
     match within {

@@ -1,9 +1,19 @@
 //! The float of a double's value, in the shortest width that holds it or in a width with a mark.
 
 ghost use Rattle.std.specs.Prelude.{◌<◌, ◌≤◌, ◌^◌};
+ghost use Rattle.cbor_encode.specs.declared.floats.TheConstants.{DOUBLE_BIAS, EXPONENTS, FRACTION_BITS};
 
 use crate::heads::{Form, Mark};
 use ciborium_ll_grammar::hdr::Float;
+
+/// How many bits the fraction of a double has (IEEE 754, binary64).
+const FRACTION_BITS: u32 = 52;
+
+/// How many values the field of a double's exponent has (IEEE 754, binary64).
+const EXPONENTS: u32 = 0x800;
+
+/// The bias of a double's exponent (IEEE 754, binary64).
+const DOUBLE_BIAS: u32 = 1023;
 
 /// Returns the float with the value of a double, by the bits of the double. `None` means that the mark's width does not
 /// hold the value, or that floats have no such mark.
@@ -48,8 +58,8 @@ fn single(double: u64) -> Option<Float> {
 ///
 /// `None` means that the width does not hold the value.
 fn narrowed(double: u64, digits: u32, bias: u32) -> Option<u64>
-    requires digits { digits ≤ 52 }
-    requires bias { bias < 1024 }
+    requires digits { digits ≤ FRACTION_BITS }
+    requires bias { bias ≤ DOUBLE_BIAS }
 {
     let exponent = (double / 0x10_0000_0000_0000 % 0x800) as u32;
     let fraction = double % 0x10_0000_0000_0000;
@@ -61,12 +71,12 @@ fn narrowed(double: u64, digits: u32, bias: u32) -> Option<u64>
 
 /// Returns those bits without the sign.
 fn narrowed_size(exponent: u32, fraction: u64, digits: u32, bias: u32) -> Option<u64>
-    requires digits { digits ≤ 52 }
-    requires bias { bias < 1024 }
-    requires exponent { exponent < 2048 }
-    requires fraction { fraction < 2 ^ 52 }
+    requires digits { digits ≤ FRACTION_BITS }
+    requires bias { bias ≤ DOUBLE_BIAS }
+    requires exponent { exponent < EXPONENTS }
+    requires fraction { fraction < 2 ^ FRACTION_BITS }
 {
-    let lost = 52 - digits;
+    let lost = FRACTION_BITS - digits;
     if exponent == 0x7ff {
         // An infinity or a NaN.
         return Some(u64::from(2 * bias + 1) << digits | cut(fraction, lost)?);
@@ -74,14 +84,14 @@ fn narrowed_size(exponent: u32, fraction: u64, digits: u32, bias: u32) -> Option
     if exponent == 0 {
         return if fraction == 0 { Some(0) } else { None };
     }
-    if exponent > 1023 + bias {
+    if exponent > DOUBLE_BIAS + bias {
         return None;
     }
-    if exponent + bias > 1023 {
-        return Some(u64::from(exponent + bias - 1023) << digits | cut(fraction, lost)?);
+    if exponent + bias > DOUBLE_BIAS {
+        return Some(u64::from(exponent + bias - DOUBLE_BIAS) << digits | cut(fraction, lost)?);
     }
     // Below its least exponent a width has one bit less for each step.
-    let more = 1024 - (exponent + bias);
+    let more = DOUBLE_BIAS + 1 - (exponent + bias);
     if more > digits {
         return None;
     }

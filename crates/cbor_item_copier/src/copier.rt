@@ -4,6 +4,7 @@ ghost use Rattle.std.specs.Prelude.{◌≡◌, ◌≢◌, ◌+◌, ◌<◌, ◌�
 ghost use Rattle.std.specs.Prelude.{true, false};
 ghost use Rattle.ciborium_ll_grammar.specs.declared.spelling.Spelling.{Spelling};
 ghost use Rattle.ciborium_ll_grammar.specs.declared.spelling.Spelling.TheVariants.{Any, Shortest};
+ghost use Rattle.ciborium_ll_grammar.specs.declared.limits.TheConstants.{LONGEST_AFFIX};
 ghost use Rattle.ciborium_ll_grammar.specs.Title.{AreBytes};
 ghost use Rattle.cbor_copier.specs.Copying.{HasCopied};
 ghost use Rattle.cbor_copier.specs.Reading.{NoneGoOn};
@@ -17,6 +18,7 @@ use crate::progress::{Copied, End, Progress};
 use crate::snapshot::Snapshot;
 use cbor_checker::{Checker, End as CheckedEnd, Progress as Checked};
 use cbor_copier::Copier;
+use ciborium_ll_grammar::limits::LONGEST_AFFIX;
 use ciborium_ll_grammar::spelling::Spelling;
 
 /// Returns whether bytes of the spelling are to be written.
@@ -59,20 +61,20 @@ fn copied_len(checker: &Checker, taken: usize) -> usize
 }
 
 /// Returns how many of the `left` bytes of a piece go at once: as many as surely have room, and at least one. The bytes
-/// of a title or a character that are held back are at most eight.
+/// of a title or a character that are held back are at most `LONGEST_AFFIX`.
 fn step_len(left: usize, room: usize) -> usize
     requires { 0 < left }
     ensures some { (0 < result) × (result ≤ left) }
-    ensures fits { (result ≤ 1) ⊎ (result + 8 ≤ room) }
+    ensures fits { (result ≤ 1) ⊎ (result + LONGEST_AFFIX ≤ room) }
 {
-    left.min(room.saturating_sub(8)).max(1)
+    left.min(room.saturating_sub(LONGEST_AFFIX)).max(1)
 }
 
 /// Copies bytes with which some elements begin, and returns how many bytes were written. All bytes that were put out
 /// before have to be given.
 fn copy(copier: &mut Copier, bytes: &[u8], out: &mut [u8]) -> usize
     requires given { pending_of copier.old ≡ [] }
-    requires fits { (length bytes.now ≤ 1) ⊎ (length bytes.now + 8 ≤ length out.old) }
+    requires fits { (length bytes.now ≤ 1) ⊎ (length bytes.now + LONGEST_AFFIX ≤ length out.old) }
     ensures written { result ≤ length out.old }
     ensures kept { drop result out.new ≡ drop result out.old }
     ensures full { (pending_of copier.new ≡ []) ⊎ (result ≡ length out.old) }
@@ -198,7 +200,7 @@ impl ItemCopier {
     /// written, or `None` if no more bytes can be counted.
     fn step(&mut self, bytes: &[u8], out: &mut [u8]) -> Option<(usize, usize)>
         requires some { 0 < length bytes.now }
-        requires fits { (length bytes.now ≤ 1) ⊎ (length bytes.now + 8 ≤ length out.old) }
+        requires fits { (length bytes.now ≤ 1) ⊎ (length bytes.now + LONGEST_AFFIX ≤ length out.old) }
         requires given { pending self.old ≡ [] }
         requires due { is_due (item_spot self.old).phase ≡ true }
         ensures { Takes self.old bytes.now out.old result out.new self.new }
@@ -251,7 +253,7 @@ impl ItemCopier {
             self.old
             → result.progress ≡ r.TooLong → is_due (item_spot self.new).phase ≡ true }
         ensures full { IsRoom result.progress → result.written ≡ length out.old }
-        ensures fits { pending self.old ≡ [] → length bytes.now + 8 ≤ length out.old → IsRoom result.progress → ⊥ }
+        ensures fits { pending self.old ≡ [] → length bytes.now + LONGEST_AFFIX ≤ length out.old → IsRoom result.progress → ⊥ }
         ensures grown { result.written + held self.new ≤ held self.old + result.taken }
         ensures stays { is_due (item_spot self.old).phase ≡ false → pending self.old ≡ []
             → (result.taken ≡ 0) × (result.written ≡ 0) × (self.new ≡ self.old)
@@ -314,7 +316,7 @@ impl ItemCopier {
         ensures long { result.progress ≡ r.TooLong → result.taken < length bytes.now }
         ensures full { IsRoom result.progress → result.written ≡ length out.old }
         ensures none { (IsRoom result.progress → ⊥) → pending self.new ≡ [] }
-        ensures fits { pending self.old ≡ [] → length bytes.now + 8 ≤ length out.old → IsRoom result.progress → ⊥ }
+        ensures fits { pending self.old ≡ [] → length bytes.now + LONGEST_AFFIX ≤ length out.old → IsRoom result.progress → ⊥ }
         ensures grown { result.written + held self.new ≤ held self.old + result.taken }
         ensures stays { (progress : Progress) → Answers self.old progress → IsLast progress
             → (result.taken ≡ 0) × (result.written ≡ 0) × (self.new ≡ self.old) × (result.progress ≡ progress) }

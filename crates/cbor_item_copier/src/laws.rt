@@ -2,6 +2,7 @@
 
 ghost use Rattle.std.specs.Prelude.{Bool, ℕ, ◌≡◌, ◌≢◌, ◌+◌, ◌≤◌, ◌++◌, ◌↔◌, List, [], length};
 ghost use Rattle.ciborium_ll_grammar.specs.declared.spelling.Spelling.{Spelling};
+ghost use Rattle.ciborium_ll_grammar.specs.declared.limits.TheConstants.{LONGEST_AFFIX};
 ghost use Rattle.ciborium_ll_grammar.specs.Title.{AreBytes};
 ghost use Rattle.ciborium_ll_grammar.specs.Elements.{IsRun, Mark, spelling};
 ghost use Rattle.ciborium_ll_grammar.specs.Items.{IsItem};
@@ -106,13 +107,13 @@ pub fn item_spelled_so_far()
         → (rest : List ℕ) × (spelling marks ≡ (written ++ pending copier) ++ rest) }
 {}
 
-/// A copier that has read no byte has written none, and holds none. If nothing is pending, a copier holds at most eight
-/// bytes back. The pending bytes are among those that are held.
+/// A copier that has read no byte has written none, and holds none. If nothing is pending, a copier holds back at most
+/// `LONGEST_AFFIX` bytes, which is 8. The pending bytes are among those that are held.
 pub fn few_held()
     ensures none { (allowed : Spelling) (depth : ℕ) (written : List ℕ) (copier : ItemCopier)
         → HasCopied allowed depth [] written copier
         → (written ≡ []) × (pending copier ≡ []) × (held copier ≡ 0) }
-    ensures few { (copier : ItemCopier) → pending copier ≡ [] → held copier ≤ 8 }
+    ensures few { (copier : ItemCopier) → pending copier ≡ [] → held copier ≤ LONGEST_AFFIX }
     ensures some { (copier : ItemCopier) → length (pending copier) ≤ held copier }
 {}
 

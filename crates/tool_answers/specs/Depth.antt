@@ -1,5 +1,6 @@
 -- How deep a skip may go.
 use Rattle.std.specs.Prelude.{◌≤◌}
+use Rattle.ciborium_ll_grammar.specs.declared.limits.TheConstants.{MOST_LEVELS}
 use Rattle.tool_requests.specs.declared.request.Request.{Request}
 use Rattle.tool_requests.specs.declared.request.Request.TheVariants.{Bytes, Chunks, Heads, Recode, Skip}
 use Rattle.tool_requests.specs.declared.request.Request.TheVariants.{Strict, Text}
@@ -13,4 +14,4 @@ IsWithinDepth (Bytes asked) = Unit {0}
 IsWithinDepth (Text asked) = Unit {0}
 IsWithinDepth (Recode asked) = Unit {0}
 IsWithinDepth (Strict asked) = Unit {0}
-IsWithinDepth (Skip asked) = asked.number ≤ 256
+IsWithinDepth (Skip asked) = asked.number ≤ MOST_LEVELS

@@ -3,8 +3,9 @@
 //! A string in a string is shown by another instance of the same functions, so the types say how many may contain one
 //! another.
 
-ghost use Rattle.std.specs.Prelude.{◌≡◌, ◌≤◌, ◌<◌, ◌+◌, ◌++◌, ◌^◌, ℕ, true, length, nat_lt, suc, take, OnOk};
+ghost use Rattle.std.specs.Prelude.{◌≡◌, ◌≤◌, ◌<◌, ◌+◌, ◌++◌, ℕ, true, length, nat_lt, suc, take, OnOk};
 ghost use Rattle.ciborium_ll.specs.Limits.{MOST_LEVELS};
+ghost use Rattle.ciborium_ll.specs.Decoding.{offset_limit};
 ghost use Rattle.tool_files.specs.Embeds.{HandsOn, is_held, is_item_tag};
 
 use cbor_dump::embedded::{Deepen, dump_body};
@@ -307,7 +308,7 @@ fn put_rows<S: Rows>(
     offset: usize,
     level: usize,
 ) -> Result<(), S::Error>
-    ensures { offset + length bytes.now < 2 ^ 64
+    ensures { offset + length bytes.now < offset_limit
         → OnOk result (HandsOn level offset (S.drawn rows.old) (S.drawn rows.new) bytes.now) }
 {
     let mut at = 0;

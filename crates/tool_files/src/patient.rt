@@ -137,7 +137,7 @@ impl<T: io::Read> Patient<T> {
             × (patient_held self.new ≡ patient_held self.old) }
         ensures ended { IsSome (patient_fault self.old) → self.new ≡ self.old }
         ensures end { patient_fault self.old ≡ None → patient_fault self.new ≡ Some ReadFault.End
-            → length (patient_held self.old) < 8192 → IsAtEnd (T.remaining (patient_source self.new)) }
+            → length (patient_held self.old) < ROOM → IsAtEnd (T.remaining (patient_source self.new)) }
         ensures failures { patient_failures self.new ≡ patient_failures self.old }
     {
         if self.fault.is_some() {
@@ -194,7 +194,7 @@ impl<T: io::Read> Read for Patient<T> {
         ensures ended { IsSome (patient_fault self.old) → (patient_source self.new ≡ patient_source self.old)
             × (patient_fault self.new ≡ patient_fault self.old) }
         ensures end { OnErr result (patient_fault self.old ≡ None → patient_fault self.new ≡ Some ReadFault.End
-            → length «data».new ≤ 8192 → IsAtEnd (T.remaining (patient_source self.new))) }
+            → length «data».new ≤ ROOM → IsAtEnd (T.remaining (patient_source self.new))) }
     {
         'more: while self.window.len() < data.len() {
             if !self.more() {

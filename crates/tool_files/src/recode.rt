@@ -6,6 +6,7 @@ ghost use Rattle.ciborium_ll.specs.Limits.{MOST_LEVELS};
 ghost use Rattle.ciborium_ll_grammar.specs.declared.spelling.Spelling.TheVariants.{Any};
 ghost use Rattle.ciborium_ll_grammar.specs.Items.{AreItems};
 ghost use Rattle.ciborium_ll_streams.specs.Streams.{stream_sink};
+ghost use Rattle.tool_files.specs.declared.recode.TheConstants.{AROUND};
 ghost use Rattle.tool_files.specs.Recodes.{AnswersItems, CopiesItems, TellsAll, TellsSome, end_said, fault_place};
 ghost use Rattle.tool_files.specs.Patience.{rest_ahead};
 ghost use Rattle.tool_files.specs.Recodes.{CopiesPart, IsLeft, fault_said, part_said};
@@ -18,13 +19,17 @@ use cbor_dump::counted::skip_items;
 use cbor_item_copier::{ItemCopier, Progress};
 use ciborium_ll::Spelling;
 use ciborium_ll::io::{StdWriter, Write, WriteFault};
+use ciborium_ll::limits::LONGEST_AFFIX;
 use std::io;
 use tool_verdicts::check::{BUFFER_SIZE, decoder_of, failed_or, fault_of};
 use tool_verdicts::verdict::Verdict;
 
-/// How many bytes there is room for: those of a piece, eight of a title that an earlier piece began, and eight that a
+/// How many bytes there is room for beside a piece: those of a title that an earlier piece began, and as many that a
 /// copier wants to be free.
-const MOST_OUT: usize = ROOM + 16;
+const AROUND: usize = 2 * LONGEST_AFFIX;
+
+/// How many bytes there is room for.
+const MOST_OUT: usize = ROOM + AROUND;
 
 /// Returns the verdict that names the fault of an item from this offset on.
 fn fault_verdict(start: usize, fault: Fault) -> Verdict
@@ -95,7 +100,7 @@ impl ItemsCopy {
         out: &mut [u8],
     ) -> (usize, Option<Result<(), Verdict>>)
         requires counted { read + length piece.now ≤ usize.MAX }
-        requires room { length piece.now + 16 ≤ length out.old }
+        requires room { length piece.now + AROUND ≤ length out.old }
         requires after { IsAfter self.old.depth self.old.left self.old.start read self.old.copier }
         ensures written { result.0 ≤ length out.new }
         ensures depth { self.new.depth ≡ self.old.depth }

@@ -10,6 +10,7 @@ use Rattle.ciborium_ll_grammar.specs.declared.spelling.Spelling.TheVariants.{Any
 use Rattle.ciborium_ll_grammar.specs.Elements.{spelling}
 use Rattle.ciborium_ll_grammar.specs.Faults.{Syntax, BeginsWithElements, HasFault}
 use Rattle.ciborium_ll_decoder.specs.Decoding.{offset_limit}
+use Rattle.tool_lines.specs.declared.raw.TheConstants.{BUFFER_SIZE}
 use Rattle.ciborium_ll_recode.specs.RecodingTold.{StopInReading, StopInWriting}
 
 -- The bytes are told, and are exactly these. If `01 02` are these, `01 02` is told.
@@ -51,7 +52,7 @@ module _ {R W : Type 0} (left : R → List ℕ → Type 0) (got : W → List ℕ
   -- The writer failed. It got a beginning of the spelling of all elements, or of a part of them. The bytes that were
   -- not read are left. For one element of `43 01 02 03`, it may have got `43 01`.
   pub record WritesShort (count : ℕ) (due written : List ℕ) (reader : R) (writer : W) : Type 0 where
-    pub stop : StopInWriting count 64 due
+    pub stop : StopInWriting count BUFFER_SIZE due
     pub output : got writer (written ++ stop.written)
     pub rest : left reader stop.rest
 
@@ -80,7 +81,7 @@ module _ {R W E F : Type 0} (left : R → List ℕ → Type 0) (got : W → List
       MeetsSyntax left got count place due written reader writer
   CopiesRaw count due written (Err (r.Read e.TooLong)) reader writer =
       (short : ReadsShort got count due written writer) ×
-      (offset_limit ≤ length short.stop.before + short.stop.consumed + 64)
+      (offset_limit ≤ length short.stop.before + short.stop.consumed + BUFFER_SIZE)
   CopiesRaw count due written (Err (r.Read e.Waiting)) reader writer = ⊥
   CopiesRaw count due written (Err (r.Write fault)) reader writer =
       WritesShort left got count due written reader writer

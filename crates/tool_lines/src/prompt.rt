@@ -9,13 +9,14 @@ ghost use Rattle.tool_lines.specs.Prompt.{CopiesPrompt, TellsAll, TellsSome};
 use crate::raw::ROOM;
 use cbor_copier::{Copier, Progress};
 use ciborium_ll_decoder::dec::Error;
+use ciborium_ll_grammar::limits::LONGEST_AFFIX;
 use ciborium_ll_io::io::Write;
 use ciborium_ll_recode::recode::RecodeError;
 use ciborium_ll_streams::{ReadFault, StdWriter, WriteFault};
 use std::io;
 
-/// The most bytes that a piece puts out: eight more than the piece has, the first bytes of a title that it ends.
-const MOST_OUT: usize = ROOM + 8;
+/// The most bytes that a piece puts out: those that it has, and before them the first bytes of a title that it ends.
+const MOST_OUT: usize = ROOM + LONGEST_AFFIX;
 
 /// Reads the next piece by one call, and returns the number of bytes that came.
 ///

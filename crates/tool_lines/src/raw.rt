@@ -19,7 +19,8 @@ pub const ROOM: usize = 8192;
 /// How many bytes of a string are copied at a time, at most.
 const BUFFER_SIZE: usize = 64;
 
-/// Copies `count` elements through 64 bytes. It returns the reader and the writer, and flushes nothing.
+/// Copies `count` elements through a buffer of `BUFFER_SIZE` bytes. It returns the reader and the writer, and flushes
+/// nothing.
 fn copy_elements<R: Read, W: Write>(
     reader: R,
     writer: W,

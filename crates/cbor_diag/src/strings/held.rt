@@ -4,12 +4,16 @@ ghost use Rattle.std.specs.Prelude.{◌≡◌, ◌<◌};
 ghost use Rattle.ciborium_ll.specs.Encoding.{WritesBytes};
 ghost use Rattle.ciborium_ll_text.specs.Digits.{hex_digit};
 ghost use Rattle.cbor_escapes.specs.Escapes.{escape_text};
+ghost use Rattle.cbor_diag.specs.declared.strings.held.TheConstants.{UNIT_CODES};
 ghost use Rattle.cbor_diag.specs.Passing.{byte_notation, held_after, held_grouped, is_lead, next_text};
 ghost use Rattle.cbor_diag.specs.Passing.{shown_character, three_code, two_code};
 
 use crate::put::put;
 use cbor_escapes::is_acted_on;
 use ciborium_ll::io::Write;
+
+/// How many codes four hexadecimal digits spell.
+const UNIT_CODES: u32 = 0x1_0000;
 
 /// The bytes that came before the last byte of a character of two or three bytes, or of a group of three bytes.
 #[derive(Clone, Copy)]
@@ -72,7 +76,7 @@ pub(super) fn show_next<W: Write>(writer: &mut W, held: Held, byte: u8) -> Resul
 /// Returns the character of two bytes.
 fn code_of_two(first: u8, second: u8) -> u32
     ensures is { result ≡ two_code first second }
-    ensures below { result < 65536 }
+    ensures below { result < UNIT_CODES }
 {
     u32::from(first % 32) * 64 + u32::from(second % 64)
 }
@@ -80,7 +84,7 @@ fn code_of_two(first: u8, second: u8) -> u32
 /// Returns the character of three bytes.
 fn code_of_three(first: u8, second: u8, third: u8) -> u32
     ensures is { result ≡ three_code first second third }
-    ensures below { result < 65536 }
+    ensures below { result < UNIT_CODES }
 {
     u32::from(first % 16) * 4096 + (u32::from(second % 64) * 64 + u32::from(third % 64))
 }
@@ -104,7 +108,7 @@ fn show_single<W: Write>(writer: &mut W, byte: u8) -> Result<(), W::Error>
 
 /// Shows the bytes of a character of this code, or its escape.
 fn show_character<W: Write>(writer: &mut W, code: u32, bytes: &[u8]) -> Result<(), W::Error>
-    requires { code < 65536 }
+    requires { code < UNIT_CODES }
     ensures { WritesBytes W.Write writer.old result (shown_character code bytes.now) writer.new }
 {
     if is_acted_on(code) {
@@ -116,7 +120,7 @@ fn show_character<W: Write>(writer: &mut W, code: u32, bytes: &[u8]) -> Result<(
 
 /// Shows the escape of a character.
 fn show_escape<W: Write>(writer: &mut W, code: u32) -> Result<(), W::Error>
-    requires { code < 65536 }
+    requires { code < UNIT_CODES }
     ensures { WritesBytes W.Write writer.old result (escape_text code) writer.new }
 {
     let [high, low] = [(code / 256) as u8, (code % 256) as u8];
