@@ -8,8 +8,8 @@ use Rattle.ciborium_ll_grammar.specs.Items.{IsTakenTitle}
 use Rattle.ciborium_ll_grammar.specs.TitleRows.{IsTitleKind, IsRow}
 use Rattle.ciborium_ll_grammar.specs.declared.hdr.table.Row.{Row}
 use Rattle.ciborium_ll_grammar.proofs.TitleKinds.{kind_of, Numbered, numbered_title, kind_at, parted}
-use Rattle.cbor_checker.specs.declared.level.Level.{Level}
-use Rattle.cbor_checker.specs.declared.level.Level.TheVariants as l
+use Rattle.cbor_nests.specs.declared.remaining.Remaining.{Remaining}
+use Rattle.cbor_nests.specs.declared.remaining.Remaining.TheVariants as l
 use Rattle.cbor_checker.specs.declared.phase.Phase.TheVariants as p
 use Rattle.cbor_parser.specs.declared.strings.Within.{Within}
 use Rattle.cbor_parser.specs.declared.strings.Within.TheVariants as w
@@ -22,7 +22,7 @@ use Rattle.cbor_checker.specs.Steps.{titled, TitleStep, cut, early, whole, none}
 
 -- ---- no fault after a whole item
 
-pub settled_sound : (levels : List Level) (d : ℕ) (spot : Spot) (fault : Fault)
+pub settled_sound : (levels : List Remaining) (d : ℕ) (spot : Spot) (fault : Fault)
     → (settled d levels spot).phase ≡ p.Faulted fault → ⊥
 settled_sound (l.Items zero ∷ gs) d spot fault is = settled_sound gs (suc d) spot fault is
 settled_sound (l.Pairs zero ∷ gs) d spot fault is = settled_sound gs (suc d) spot fault is

@@ -13,8 +13,8 @@ use Rattle.ciborium_ll_grammar.proofs.TitleLaws.{one_title}
 use Rattle.ciborium_ll_grammar.proofs.StringLaws.{break_title}
 use Rattle.ciborium_ll_grammar.proofs.ElementLaws.{bytes_writable}
 use Rattle.ciborium_ll_text.proofs.StateLaws.{text_ends, text_from}
-use Rattle.cbor_checker.specs.declared.level.Level.{Level}
-use Rattle.cbor_checker.specs.declared.level.Level.TheVariants as l
+use Rattle.cbor_nests.specs.declared.remaining.Remaining.{Remaining}
+use Rattle.cbor_nests.specs.declared.remaining.Remaining.TheVariants as l
 use Rattle.cbor_parser.specs.declared.strings.Within.TheVariants as w
 use Rattle.cbor_checker.specs.Spots.{Spot, nested, broken, body_placed, item_entered}
 use Rattle.cbor_checker.proofs.Waiting.{Takes, Ends, Breaks, ItemDue, Waits, EndsString}
@@ -35,7 +35,7 @@ module _ (spot : Spot) (clear : spot.front ≡ []) (plain : spot.within ≡ w.No
   abbrev Behind : List ℕ → Type 0
   Behind = Ends spot.allowed spot.depth spot.levels
 
-  nest_on : (d : ℕ) (level : Level) (n : ℕ) (items end rest y : List ℕ) → suc d ≡ spot.depth
+  nest_on : (d : ℕ) (level : Remaining) (n : ℕ) (items end rest y : List ℕ) → suc d ≡ spot.depth
       → AreItems spot.allowed d n items → Takes level n end → Behind rest → y ≡ items ++ (end ++ rest)
       → Waits (nested spot.depth level spot) y
   nest_on d level n items end rest y same i t k e =
@@ -69,13 +69,13 @@ module _ (spot : Spot) (clear : spot.front ≡ []) (plain : spot.within ≡ w.No
       rw o.1 (completes_on spot.depth x' r rest y c refl k o.2)
 
   -- If a break begins with the title `t`, the spot after the title waits for the bytes `y` after `t`.
-  breaks_on : (levels : List Level) (t y : List ℕ) (x : Header) → IsTitle t x
+  breaks_on : (levels : List Remaining) (t y : List ℕ) (x : Header) → IsTitle t x
       → Breaks spot.allowed spot.depth levels (t ++ y) → levels ≡ spot.levels → Waits (item_entered x spot) y
   breaks_on [] t y x p o same = absurd o
   breaks_on (level ∷ levels) t y x p o same =
       let b = one_title t (0xff ∷ []) y o.rest x h.Break p break_title o.is in
       let may = o.may in
-      rw b.1 (subst (λ (z : List Level). Waits (broken z spot) y) same
+      rw b.1 (subst (λ (z : List Remaining). Waits (broken z spot) y) same
       (rw (may, broken) ((settles levels (suc spot.depth) spot y clear).0 (rw b.2 o.behind))))
 
   pub enters : (t y : List ℕ) (x : Header) → IsTitle t x → ItemDue spot.allowed spot.depth spot.levels (t ++ y)
@@ -85,7 +85,7 @@ module _ (spot : Spot) (clear : spot.front ≡ []) (plain : spot.within ≡ w.No
 
   -- ---- and back
 
-  break_back : (levels : List Level) (y : List ℕ) → Waits (broken levels spot) y
+  break_back : (levels : List Remaining) (y : List ℕ) → Waits (broken levels spot) y
       → Breaks spot.allowed spot.depth levels (0xff ∷ y)
   break_back (l.OpenItems ∷ levels) y waits =
       let behind = (settles levels (suc spot.depth) spot y clear).1 waits in search
@@ -101,7 +101,7 @@ module _ (spot : Spot) (clear : spot.front ≡ []) (plain : spot.within ≡ w.No
         let there : t ++ y ≡ (t ++ r) ++ rest = simp (e, append_assoc) in inl (search)
 
     -- If the bytes that a nest takes complete the header, the spot after its title waits for a rest of the item.
-    nest_back : (depth : ℕ) (level : Level) → depth ≡ spot.depth
+    nest_back : (depth : ℕ) (level : Remaining) → depth ≡ spot.depth
         → ((d n : ℕ) (items end : List ℕ) → Takes level n end → AreItems spot.allowed d n items
         → Completes spot.allowed (suc d) x (items ++ end))
         → Waits (nested depth level spot) y → ItemDue spot.allowed spot.depth spot.levels (t ++ y)

@@ -4,7 +4,7 @@ use Rattle.std.proofs.lemmas.Bool.Decides.{nat_tests}
 use Rattle.ciborium_ll_grammar.specs.declared.hdr.Header.{Header}
 use Rattle.ciborium_ll_text.specs.declared.state.State.{State}
 use Rattle.ciborium_ll_text.specs.States.{may_end}
-use Rattle.cbor_checker.specs.declared.level.Level.{Level}
+use Rattle.cbor_nests.specs.declared.remaining.Remaining.{Remaining}
 use Rattle.cbor_checker.specs.declared.phase.Phase.{Phase}
 use Rattle.cbor_checker.specs.declared.phase.Phase.TheVariants as p
 use Rattle.cbor_parser.specs.declared.strings.Within.{Within}
@@ -23,7 +23,7 @@ Ready phase = Unit {0}
 abbrev pub Kept : Spot → Spot → Type 0
 Kept spot new = (new.front ≡ spot.front) × (new.offset ≡ spot.offset) × Ready new.phase
 
-settled_kept : (levels : List Level) (d : ℕ) (spot : Spot) → Kept spot (settled d levels spot)
+settled_kept : (levels : List Remaining) (d : ℕ) (spot : Spot) → Kept spot (settled d levels spot)
 settled_kept [] d spot = (refl, refl, tt)
 settled_kept (g ∷ gs) d spot = grind (arith, settled_kept gs)
 

@@ -12,7 +12,7 @@ use Rattle.ciborium_ll_text.specs.Text.{IsFront}
 use Rattle.ciborium_ll_text.proofs.EndLaws.{may_back}
 use Rattle.ciborium_ll_text.proofs.Lists.{Below, below_rest, below_take, rest_long}
 use Rattle.ciborium_ll_text.proofs.StateLaws.{after-append, text_ends}
-use Rattle.cbor_checker.specs.declared.level.Level.{Level}
+use Rattle.cbor_nests.specs.declared.remaining.Remaining.{Remaining}
 use Rattle.cbor_checker.specs.declared.phase.Phase.{Phase}
 use Rattle.cbor_checker.specs.declared.phase.Phase.TheVariants as p
 use Rattle.cbor_checker.specs.Spots.{Spot, at_phase, settled, bytes_due}
@@ -58,7 +58,7 @@ one_leads (x ∷ xs) spot new below some step = go x (below 0 (omega arith)) ste
 
 -- ---- a step in a body does not depend on the phase before
 
-settled_alike : (gs : List Level) (d : ℕ) (s : Spot) (a : Phase) → settled d gs (at_phase a s) ≡ settled d gs s
+settled_alike : (gs : List Remaining) (d : ℕ) (s : Spot) (a : Phase) → settled d gs (at_phase a s) ≡ settled d gs s
 settled_alike [] d s a = refl
 settled_alike (g ∷ gs) d s a = grind (arith, settled_alike gs)
 

@@ -5,23 +5,24 @@ use Rattle.ciborium_ll_grammar.specs.declared.spelling.Spelling.{Spelling}
 use Rattle.ciborium_ll_grammar.specs.declared.hdr.Header.{Header}
 use Rattle.ciborium_ll_grammar.specs.Title.{IsTitle}
 use Rattle.ciborium_ll_grammar.specs.Items.{Completes, AreItems, IsTakenTitle, no_items, more_items, IsItem}
-use Rattle.cbor_checker.specs.declared.level.Level.{Level}
-use Rattle.cbor_checker.specs.declared.level.Level.TheVariants as l
+use Rattle.cbor_nests.specs.declared.remaining.Remaining.{Remaining}
+use Rattle.cbor_nests.specs.declared.remaining.Remaining.TheVariants as l
 use Rattle.cbor_parser.specs.declared.strings.Within.{Within}
 use Rattle.cbor_parser.specs.declared.strings.Within.TheVariants as w
-use Rattle.cbor_checker.specs.Levels.{ends_before, next}
+use Rattle.cbor_nests.specs.Remaining.{next}
+use Rattle.cbor_checker.specs.Levels.{ends_before}
 use Rattle.cbor_checker.specs.Spots.{Spot, settled, string_done}
 use Rattle.cbor_checker.proofs.Waiting.{Takes, EndsLevel, Ends, ItemThen, BreakThen, StringDone, Waits}
 
 -- ---- one level
 
 -- If a level takes `n + 1` items, the level after one item takes `n` items.
-next_takes : (f g : Level) (n : ℕ) (e : List ℕ) → next f ≡ Some g → Takes f (suc n) e → Takes g n e
+next_takes : (f g : Remaining) (n : ℕ) (e : List ℕ) → next f ≡ Some g → Takes f (suc n) e → Takes g n e
 next_takes l.OpenPairs g n e d ((k, q), u) =
     let same : l.OpenValue ≡ g = cc in rw (← same) ((k - 1, omega (arith, q)), u)
 next_takes f g n e d t = grind arith
 
-next_back : (f g : Level) (n : ℕ) (e : List ℕ) → next f ≡ Some g → Takes g n e → Takes f (suc n) e
+next_back : (f g : Remaining) (n : ℕ) (e : List ℕ) → next f ≡ Some g → Takes g n e → Takes f (suc n) e
 next_back l.OpenPairs g n e d t =
     let same : g ≡ l.OpenValue = cc in let ((k, q), u) = rw same at t in ((suc k, omega (arith, q)), u)
 next_back f g n e d t = grind arith
@@ -33,7 +34,7 @@ pub item_of : (s : Spelling) (d : ℕ) (t r : List ℕ) (x : Header) → IsTitle
     → IsItem s d (t ++ r)
 item_of s d t r x p g c = subst (λ (z : List ℕ). IsItem s d (t ++ z)) (append-nil r) (more_items p g c no_items)
 
-module _ (s : Spelling) (f g : Level) (d : ℕ) (Then : List ℕ → Type 0) (goes : next f ≡ Some g) where
+module _ (s : Spelling) (f g : Remaining) (d : ℕ) (Then : List ℕ → Type 0) (goes : next f ≡ Some g) where
   level_opens : (n : ℕ) (items e rest y : List ℕ) → AreItems s d n items → Takes f n e → Then rest
       → y ≡ items ++ (e ++ rest) → ItemThen s d (EndsLevel s g d Then) y ⊎ BreakThen g Then y
   level_opens n items e rest y no_items t k is =
@@ -67,7 +68,7 @@ abbrev pub Same : Type 0 → Type 0 → Type 0
 Same A B = (A → B) × (B → A)
 
 -- A level without an item due ends with no byte.
-done_level : (s : Spelling) (f : Level) (d : ℕ) (Then : List ℕ → Type 0) → next f ≡ None
+done_level : (s : Spelling) (f : Remaining) (d : ℕ) (Then : List ℕ → Type 0) → next f ≡ None
     → (n : ℕ) (items e rest y : List ℕ)
     → AreItems s d n items → Takes f n e → Then rest → y ≡ items ++ (e ++ rest) → Then y
 done_level s f d Then done n items e rest y no_items t k is =
@@ -75,7 +76,7 @@ done_level s f d Then done n items e rest y no_items t k is =
 done_level s f d Then done n items e rest y (more_items q v c i) t k is =
     absurd (grind arith)
 
-settled_next : (o : Option Level) (f : Level) (fs : List Level) (d : ℕ) (spot : Spot) (y : List ℕ) → next f ≡ o
+settled_next : (o : Option Remaining) (f : Remaining) (fs : List Remaining) (d : ℕ) (spot : Spot) (y : List ℕ) → next f ≡ o
     → spot.front ≡ [] → Same (Ends spot.allowed (suc d) fs y) (Waits (settled (suc d) fs spot) y)
     → Same (Ends spot.allowed d (f ∷ fs) y) (Waits (settled d (f ∷ fs) spot) y)
 settled_next None f fs d spot y e clear same =
@@ -92,7 +93,7 @@ settled_next (Some g) f fs d spot y e clear same =
     )
 
 -- After a whole item, the spot waits for the bytes that end all levels.
-pub settles : (fs : List Level) (d : ℕ) (spot : Spot) (y : List ℕ) → spot.front ≡ []
+pub settles : (fs : List Remaining) (d : ℕ) (spot : Spot) (y : List ℕ) → spot.front ≡ []
     → Same (Ends spot.allowed d fs y) (Waits (settled d fs spot) y)
 settles [] d spot y clear = (λ e. e, λ e. e)
 settles (f ∷ fs) d spot y clear = settled_next (next f) f fs d spot y refl clear (settles fs (suc d) spot y clear)

@@ -14,8 +14,8 @@ use Rattle.ciborium_ll_text.specs.declared.state.State.{State}
 use Rattle.ciborium_ll_text.specs.declared.state.State.TheVariants as s
 use Rattle.ciborium_ll_text.specs.States.{is_from, after_first, after_next, after_byte, after, may_end}
 use Rattle.ciborium_ll_text.proofs.EndLaws.{none_left}
-use Rattle.cbor_checker.specs.declared.level.Level.{Level}
-use Rattle.cbor_checker.specs.declared.level.Level.TheVariants as l
+use Rattle.cbor_nests.specs.declared.remaining.Remaining.{Remaining}
+use Rattle.cbor_nests.specs.declared.remaining.Remaining.TheVariants as l
 use Rattle.cbor_checker.specs.declared.phase.Phase.{Phase}
 use Rattle.cbor_checker.specs.declared.phase.Phase.TheVariants as p
 use Rattle.cbor_checker.specs.declared.phase.Fault.{Fault}
@@ -42,7 +42,7 @@ zeros s d (suc n) =
     (0 ∷ others, more_items (numbered Unsigned Small 0 (omega arith)) (grind arith) positive are)
 
 -- Each level ends with some number of items and an end.
-level_ending : (level : Level) → (n : ℕ) × (end : List ℕ) × Takes level n end
+level_ending : (level : Remaining) → (n : ℕ) × (end : List ℕ) × Takes level n end
 level_ending (l.Items n) = (n, [], (refl, refl))
 level_ending (l.Pairs n) = (2 * n, [], (refl, refl))
 level_ending (l.Value n) = (suc (2 * n), [], (refl, refl))
@@ -50,7 +50,7 @@ level_ending l.OpenItems = (0, 0xff ∷ [], (tt, refl))
 level_ending l.OpenPairs = (0, 0xff ∷ [], ((0, omega arith), refl))
 level_ending l.OpenValue = (1, 0xff ∷ [], ((0, omega arith), refl))
 
-some_ends : (s : Spelling) (levels : List Level) (d : ℕ) → (y : List ℕ) × Ends s d levels y
+some_ends : (s : Spelling) (levels : List Remaining) (d : ℕ) → (y : List ℕ) × Ends s d levels y
 some_ends s [] d = ([], refl)
 some_ends s (level ∷ levels) d =
     let (rest, behind) = some_ends s levels (suc d) in
@@ -64,11 +64,11 @@ some_strings s k (suc n) Then o =
     let (y, behind) = some_strings s k n Then o in
     (0xff ∷ y, end_back s k (EndsStrings s k n Then) (0xff ∷ []) y refl behind)
 
-some_done : (s : Spelling) (i : Within) (d : ℕ) (levels : List Level) → (y : List ℕ) × StringDone s i d levels y
+some_done : (s : Spelling) (i : Within) (d : ℕ) (levels : List Remaining) → (y : List ℕ) × StringDone s i d levels y
 some_done s w.Nothing d levels = some_ends s levels d
 some_done s (w.Open k n) d levels = some_strings s (kind_of k) n (Ends s d levels) (some_ends s levels d)
 
-some_due : (s : Spelling) (i : Within) (d : ℕ) (levels : List Level) → (y : List ℕ) × TitleDue s i d levels y
+some_due : (s : Spelling) (i : Within) (d : ℕ) (levels : List Remaining) → (y : List ℕ) × TitleDue s i d levels y
 some_due s w.Nothing d levels =
     let (rest, behind) = some_ends s levels d in
     let (item, is_item) = zeros s d 1 in

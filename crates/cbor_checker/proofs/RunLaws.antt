@@ -3,10 +3,10 @@ use Rattle.std.proofs.Common.{◌≡◌, ℕ, zero, suc, ◌+◌, ◌-◌, ◌<�
 use Rattle.std.proofs.Common.{◌∙◌, arith, Some, None, length-append, zero-add, add-zero, add-one, ◌*◌, take, drop}
 use Rattle.std.proofs.Common.{slice_index}
 use Rattle.std.proofs.lemmas.Bool.Decides.{nat_tests}
-use Rattle.cbor_checker.specs.declared.level.Level.{Level}
+use Rattle.cbor_nests.specs.declared.remaining.Remaining.{Remaining}
 use Rattle.cbor_checker.specs.declared.phase.Phase.TheVariants as p
 use Rattle.cbor_parser.specs.declared.strings.Within.TheVariants as w
-use Rattle.cbor_checker.specs.Levels.{next}
+use Rattle.cbor_nests.specs.Remaining.{next}
 use Rattle.cbor_checker.specs.Stack.{innermost, others}
 use Rattle.cbor_checker.specs.Plain.{ArePlain, counted_behind, lowered, more, none, pairs_of, passed, IsNestTitle}
 use Rattle.cbor_checker.specs.Spots.{Spot, item_done, settled, item_due, item_entered, nested}
@@ -18,7 +18,7 @@ use Rattle.std.proofs.lemmas.List.{length-take-le, take_rest}
 use Rattle.std.proofs.Math.Seq.{take-add}
 use Rattle.ciborium_ll_text.proofs.Lists.{Below, rest_long}
 use Rattle.ciborium_ll_grammar.specs.Title.{Array, Major, Map, Small, major_code, numbered_header}
-use Rattle.cbor_checker.specs.declared.level.Level.TheVariants as l
+use Rattle.cbor_nests.specs.declared.remaining.Remaining.TheVariants as l
 use Rattle.cbor_checker.proofs.PlainLaws.{one_taken}
 
 -- ---- the nest with fewer items
@@ -26,20 +26,20 @@ use Rattle.cbor_checker.proofs.PlainLaws.{one_taken}
 next_pairs : (n : ℕ) → next (pairs_of (suc n)) ≡ Some (pairs_of n)
 next_pairs n = grind (arith, nat_tests)
 
-next_lowered : (level : Level) (count n : ℕ) → counted_behind level ≡ Some count
+next_lowered : (level : Remaining) (count n : ℕ) → counted_behind level ≡ Some count
     → next (lowered (suc n) level) ≡ Some (lowered n level)
 next_lowered level count n e = grind (arith, nat_tests)
 
-last_lowered : (level : Level) (count : ℕ) → counted_behind level ≡ Some count → next (lowered 0 level) ≡ None
+last_lowered : (level : Remaining) (count : ℕ) → counted_behind level ≡ Some count → next (lowered 0 level) ≡ None
 last_lowered level count e = grind (arith, nat_tests)
 
 -- A level that is lowered to its own count stays as it is.
-lowered_same : (level : Level) (count : ℕ) → counted_behind level ≡ Some count → lowered count level ≡ level
+lowered_same : (level : Remaining) (count : ℕ) → counted_behind level ≡ Some count → lowered count level ≡ level
 lowered_same level count e = grind (arith, nat_tests)
 
 -- ---- the spot after the items
 
-run_leads : (s : Spot) (rest : List Level) (level : Level) (all count left last : ℕ) (bytes : List ℕ)
+run_leads : (s : Spot) (rest : List Remaining) (level : Remaining) (all count left last : ℕ) (bytes : List ℕ)
     → counted_behind level ≡ Some all → ArePlain s.allowed s.offset s.place count last bytes
     → Leads (record (due s) { levels = lowered (count + left) level ∷ rest }) bytes
     (record (due s) { levels = lowered left level ∷ rest; place = last; offset = s.offset + length bytes })
@@ -53,16 +53,16 @@ run_leads s rest level all (suc count) left last bytes is (more {last = place} {
     let goes = rw (next_lowered level all left is, settled) at (one m refl refl refl refl) in
     rw (here, long) (leads_more _ m _ xs item (run_leads s rest level all count (suc left) place xs is so_far) goes)
 
-stack_of : (levels : List Level) (level : Level) (left : ℕ) → Some level ≡ innermost levels
+stack_of : (levels : List Remaining) (level : Remaining) (left : ℕ) → Some level ≡ innermost levels
     → counted_behind level ≡ Some left → levels ≡ lowered left level ∷ others levels
 stack_of levels level left e all = let same = lowered_same level left all in grind (arith, nat_tests)
 
 -- The spot with other nests, another place and another offset.
-abbrev moved : ℕ → List Level → ℕ → ℕ → Spot → Spot
+abbrev moved : ℕ → List Remaining → ℕ → ℕ → Spot → Spot
 moved depth levels place offset s = record s { depth = depth; levels = levels; place = place; offset = offset }
 
 -- Bytes that lead on in the lowered level lead on in the innermost level.
-module _ (s : Spot) (level : Level) (left : ℕ) (at : s.phase ≡ p.Title) (clear : length s.front ≡ 0)
+module _ (s : Spot) (level : Remaining) (left : ℕ) (at : s.phase ≡ p.Title) (clear : length s.front ≡ 0)
     (in_none : s.within ≡ w.Nothing) (is : Some level ≡ innermost s.levels)
     (all : counted_behind level ≡ Some left) where
   from_stack : {bytes : List ℕ} (count : ℕ) (To : Spot → Spot) → left ≡ count
@@ -71,7 +71,7 @@ module _ (s : Spot) (level : Level) (left : ℕ) (at : s.phase ≡ p.Title) (cle
   from_stack {bytes} count To e leads =
       let known : s.levels ≡ lowered count level ∷ others s.levels =
       stack_of s.levels level left is all ∙ ap (λ (z : ℕ). lowered z level ∷ others s.levels) e in
-      from_due s at clear in_none To (subst (λ (z : List Level). Leads (record (due s) { levels = z }) bytes
+      from_due s at clear in_none To (subst (λ (z : List Remaining). Leads (record (due s) { levels = z }) bytes
       (To (due s))) (sym known) leads)
 
   -- After some of the items, another item is due in the nest.
@@ -89,7 +89,7 @@ module _ (s : Spot) (level : Level) (left : ℕ) (at : s.phase ≡ p.Title) (cle
       → Leads s bytes (item_done (moved (s.depth + 1) (others s.levels) last (s.offset + length bytes) s))
   run_ends last bytes zero e plain = absurd (omega arith)
   run_ends last bytes (suc count) e (more {last = place} {bytes = xs} {item = item} so_far one) =
-      let rest : List Level = others s.levels in
+      let rest : List Remaining = others s.levels in
       let m : Spot = record (due s) { levels = lowered 0 level ∷ rest; place = place; offset = s.offset + length xs } in
       let u : Spot = passed (length item) m in
       let long : s.offset + length (xs ++ item) ≡ s.offset + length xs + length item =
@@ -106,7 +106,7 @@ module _ (s : Spot) (level : Level) (left : ℕ) (at : s.phase ≡ p.Title) (cle
 below_one : (b : ℕ) → b < 256 → Below (b ∷ [])
 below_one b byte i less = grind (arith, nat_tests)
 
-title_enters : (b n : ℕ) (major : Major) (inner level : Level) → b ≡ 32 * major_code major + n → n < 24 → b < 256
+title_enters : (b n : ℕ) (major : Major) (inner level : Remaining) → b ≡ 32 * major_code major + n → n < 24 → b < 256
     → next inner ≡ Some level
     → ((u : Spot) → item_entered (numbered_header major Small n) u ≡ nested u.depth inner u) → IsNestTitle b level
 title_enters b n major inner level e small byte left enters = λ s at clear none deep.
@@ -136,7 +136,7 @@ map_enters b k e small =
 one_byte : (xs : List ℕ) → 0 < length xs → slice_index xs 0 ∷ [] ≡ take 1 xs
 one_byte xs some = grind (arith, nat_tests)
 
-module _ (s : Spot) (level : Level) (left last len : ℕ) (xs : List ℕ) (at : s.phase ≡ p.Title)
+module _ (s : Spot) (level : Remaining) (left last len : ℕ) (xs : List ℕ) (at : s.phase ≡ p.Title)
     (clear : length s.front ≡ 0) (in_none : s.within ≡ w.Nothing) (deep : 0 < s.depth) (le : len ≤ length xs - 1)
     (enters : IsNestTitle (slice_index xs 0) level) (all : counted_behind level ≡ Some left) where
   -- The spot after the title of the nest.

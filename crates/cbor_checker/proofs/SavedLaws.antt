@@ -2,7 +2,7 @@
 use Rattle.ciborium_ll_grammar.specs.declared.spelling.Spelling.{Spelling}
 use Rattle.std.proofs.Common.{◌≡◌, ◌∙◌, ℕ, List, sym, ap}
 use Rattle.cbor_checker.specs.declared.checker.Checker.{Checker}
-use Rattle.cbor_checker.specs.declared.level.Level.{Level}
+use Rattle.cbor_nests.specs.declared.remaining.Remaining.{Remaining}
 use Rattle.cbor_checker.specs.declared.phase.Phase.{Phase}
 use Rattle.cbor_parser.specs.declared.strings.Within.{Within}
 use Rattle.cbor_checker.specs.declared.progress.End.{End}
@@ -13,7 +13,7 @@ use Rattle.cbor_checker.specs.Snapshots.{Holds}
 use Rattle.cbor_checker.specs.Spots.{Spot}
 use Rattle.cbor_checker.specs.Telling.{end_of, progress_of}
 
-abbrev at_parts : Spelling → Phase → List ℕ → Within → ℕ → List Level → ℕ → ℕ → Spot
+abbrev at_parts : Spelling → Phase → List ℕ → Within → ℕ → List Remaining → ℕ → ℕ → Spot
 at_parts allowed phase front within depth levels place offset = record {
   allowed = allowed;
   phase = phase;

@@ -5,8 +5,8 @@ use Rattle.std.proofs.Common.{add-one, inl, inr}
 use Rattle.std.proofs.Math.ListN.{get_or-append, set}
 use Rattle.std.proofs.lemmas.List.{get_or-take, set-get_or}
 use Rattle.std.proofs.lemmas.Option.{same_Some}
-use Rattle.cbor_checker.specs.declared.level.Level.{Level}
-use Rattle.cbor_checker.specs.declared.level.Level.TheVariants as l
+use Rattle.cbor_nests.specs.declared.remaining.Remaining.{Remaining}
+use Rattle.cbor_nests.specs.declared.remaining.Remaining.TheVariants as l
 use Rattle.cbor_checker.specs.Snapshots.{levels_in, level_in, within_others}
 use Rattle.cbor_checker.specs.Spots.{Spot, item_due, settled}
 use Rattle.cbor_checker.specs.Stack.{levels_of, others}
@@ -24,7 +24,7 @@ same_levels (suc n) kinds counts kinds' counts' k c =
     cc (k n (omega arith), c n (omega arith), below)
 
 -- The numbers of one more nest add a nest to the list.
-pub levels_push : (n m : ℕ) (kinds counts : List ℕ) (kind count : ℕ) (level : Level) (levels : List Level)
+pub levels_push : (n m : ℕ) (kinds counts : List ℕ) (kind count : ℕ) (level : Remaining) (levels : List Remaining)
     → n < length kinds → n < length counts → m ≡ n + 1 → level_in kind count ≡ Some level
     → levels_in n kinds counts ≡ Some levels
     → levels_in m (set kinds n kind) (set counts n count) ≡ Some (level ∷ levels)
@@ -35,12 +35,12 @@ levels_push n m kinds counts kind count level levels ltk ltc e is below =
     ap (λ (z : ℕ). levels_in z (set kinds n kind) (set counts n count)) (e ∙ add-one n)
     ∙ cc (get_or-set_same kinds n kind 0 ltk, get_or-set_same counts n count 0 ltc, f, is, below)
 
-others_in : (here : Option Level) (below : Option (List Level)) (levels : List Level)
+others_in : (here : Option Remaining) (below : Option (List Remaining)) (levels : List Remaining)
     → within_others here below ≡ Some levels → below ≡ Some (others levels)
 others_in here below levels is = grind (arith, nat_tests)
 
 -- New numbers for the last nest replace the innermost nest.
-pub levels_put : (m n : ℕ) (kinds counts : List ℕ) (kind count : ℕ) (level : Level) (levels : List Level) → m ≡ n + 1
+pub levels_put : (m n : ℕ) (kinds counts : List ℕ) (kind count : ℕ) (level : Remaining) (levels : List Remaining) → m ≡ n + 1
     → n < length kinds → n < length counts → level_in kind count ≡ Some level → levels_in m kinds counts ≡ Some levels
     → levels_in m (set kinds n kind) (set counts n count) ≡ Some (level ∷ others levels)
 levels_put m n kinds counts kind count level levels e ltk ltc is all =
@@ -48,7 +48,7 @@ levels_put m n kinds counts kind count level levels e ltk ltc is all =
     levels_push n m kinds counts kind count level (others levels) ltk ltc e is
     (others_in (level_in (get_or kinds n 0) (get_or counts n 0)) (levels_in n kinds counts) levels whole)
 
-levels_first : (here : Option Level) (below : Option (List Level)) → below ≡ None → within_others here below ≡ None
+levels_first : (here : Option Remaining) (below : Option (List Remaining)) → below ≡ None → within_others here below ≡ None
 levels_first here below e = grind (arith, nat_tests)
 
 -- If one pair of numbers is no nest, the numbers are no nests.
@@ -63,10 +63,10 @@ levels_none (suc m) n kinds counts lt is =
     ]
 
 -- If there are nests, they are those of `levels_of`.
-pub some_levels : (known : Option (List Level)) → IsSome known → known ≡ Some (levels_of known)
+pub some_levels : (known : Option (List Remaining)) → IsSome known → known ≡ Some (levels_of known)
 some_levels known some = grind (arith, nat_tests)
 
-pub is_some : (known : Option (List Level)) (levels : List Level) → known ≡ Some levels → IsSome known
+pub is_some : (known : Option (List Remaining)) (levels : List Remaining) → known ≡ Some levels → IsSome known
 is_some known levels is = rw is refl
 
 -- A number that was copied to the front has the same value there.
@@ -78,11 +78,11 @@ front_read numbers front behind n i same long less =
 
 -- ---- one more item in an innermost level of items with an item left
 
-settled_items : (d count : ℕ) (rest : List Level) (s : Spot) → 0 < count
+settled_items : (d count : ℕ) (rest : List Remaining) (s : Spot) → 0 < count
     → settled d (l.Items count ∷ rest) s ≡ item_due d (l.Items (count - 1) ∷ rest) s
 settled_items d count rest s some = grind (arith, nat_tests)
 
-module _ (m n : ℕ) (kinds counts : List ℕ) (levels : List Level) (e : m ≡ n + 1) (ltk : n < length kinds)
+module _ (m n : ℕ) (kinds counts : List ℕ) (levels : List Remaining) (e : m ≡ n + 1) (ltk : n < length kinds)
     (ltc : n < length counts) (items : get_or kinds n 0 ≡ 0) (is : levels_in m kinds counts ≡ Some levels) where
   -- The new count replaces the old count of the innermost level.
   counted : (count : ℕ) → levels_in m kinds (set counts n count) ≡ Some (l.Items count ∷ others levels)
@@ -98,5 +98,5 @@ module _ (m n : ℕ) (kinds counts : List ℕ) (levels : List Level) (e : m ≡ 
   counted_due d s some =
       let count : ℕ = get_or counts n 0 in
       let old = same_Some _ _ (sym is ∙ (rw (set-get_or counts n 0) at (counted count))) in
-      ap (λ (z : List Level). settled d z s) old ∙ (settled_items d count (others levels) s some
-      ∙ sym (ap (λ (z : Option (List Level)). item_due d (levels_of z) s) (counted (count - 1))))
+      ap (λ (z : List Remaining). settled d z s) old ∙ (settled_items d count (others levels) s some
+      ∙ sym (ap (λ (z : Option (List Remaining)). item_due d (levels_of z) s) (counted (count - 1))))

@@ -15,7 +15,7 @@ use Rattle.ciborium_ll_text.specs.States.{after_byte, may_end}
 use Rattle.ciborium_ll_text.proofs.EndLaws.{none_left, text_may_end}
 use Rattle.ciborium_ll_text.proofs.Lists.{front_of_front}
 use Rattle.std.proofs.lemmas.Bool.{cases_lt}
-use Rattle.cbor_checker.specs.declared.level.Level.{Level}
+use Rattle.cbor_nests.specs.declared.remaining.Remaining.{Remaining}
 use Rattle.cbor_checker.specs.declared.phase.Phase.{Phase}
 use Rattle.cbor_checker.specs.declared.phase.Phase.TheVariants as p
 use Rattle.cbor_parser.specs.declared.strings.Within.{Within}
@@ -59,11 +59,11 @@ first_titled s k Then y (whole_string t b far q g sound behind e) = search
 first_titled s k Then y (opens t far any q behind e) =
     record { title = t; header = kind_header k None; rest = far; is_title = q; taken = rw any tt; is = e }
 
-breaks_titled : (s : Spelling) (d : ℕ) (levels : List Level) (y : List ℕ) → Breaks s d levels y → Titled s y
+breaks_titled : (s : Spelling) (d : ℕ) (levels : List Remaining) (y : List ℕ) → Breaks s d levels y → Titled s y
 breaks_titled s d (level ∷ levels) y o = break_titled s o.rest y o.is
 breaks_titled s d [] y o = absurd o
 
-pub due_titled : (s : Spelling) (i : Within) (d : ℕ) (levels : List Level) (y : List ℕ) → TitleDue s i d levels y
+pub due_titled : (s : Spelling) (i : Within) (d : ℕ) (levels : List Remaining) (y : List ℕ) → TitleDue s i d levels y
     → Titled s y
 due_titled s w.Nothing d levels y (inl o) = item_titled s d o.item o.rest y o.is_item o.is
 due_titled s w.Nothing d levels y (inr o) = breaks_titled s d levels y o

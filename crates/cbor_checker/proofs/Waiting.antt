@@ -7,8 +7,8 @@ use Rattle.ciborium_ll_grammar.specs.Elements.{AreWritable}
 use Rattle.ciborium_ll_text.specs.declared.state.State.{State}
 use Rattle.ciborium_ll_text.specs.declared.state.State.TheVariants as s
 use Rattle.ciborium_ll_text.specs.States.{after}
-use Rattle.cbor_checker.specs.declared.level.Level.{Level}
-use Rattle.cbor_checker.specs.declared.level.Level.TheVariants as l
+use Rattle.cbor_nests.specs.declared.remaining.Remaining.{Remaining}
+use Rattle.cbor_nests.specs.declared.remaining.Remaining.TheVariants as l
 use Rattle.cbor_checker.specs.declared.phase.Phase.{Phase}
 use Rattle.cbor_checker.specs.declared.phase.Phase.TheVariants as p
 use Rattle.cbor_parser.specs.declared.strings.Within.{Within}
@@ -18,7 +18,7 @@ use Rattle.cbor_checker.specs.Levels.{ends_before}
 use Rattle.cbor_checker.specs.Spots.{Spot}
 
 -- A level takes this many items and then this end.
-abbrev pub Takes : Level → ℕ → List ℕ → Type 0
+abbrev pub Takes : Remaining → ℕ → List ℕ → Type 0
 Takes (l.Items more) count end = (count ≡ more) × (end ≡ [])
 Takes (l.Pairs more) count end = (count ≡ 2 * more) × (end ≡ [])
 Takes (l.Value more) count end = (count ≡ suc (2 * more)) × (end ≡ [])
@@ -27,7 +27,7 @@ Takes l.OpenPairs count end = ((pairs : ℕ) × (count ≡ 2 * pairs)) × (end �
 Takes l.OpenValue count end = ((pairs : ℕ) × (count ≡ suc (2 * pairs))) × (end ≡ 0xff ∷ [])
 
 -- The bytes end the level, and then come bytes with the property `Then`.
-pub record EndsLevel (allowed : Spelling) (level : Level) (depth : ℕ) (Then : List ℕ
+pub record EndsLevel (allowed : Spelling) (level : Remaining) (depth : ℕ) (Then : List ℕ
     → Type 0) (bytes : List ℕ) : Type 0 where
   pub count : ℕ
   pub items : List ℕ
@@ -39,7 +39,7 @@ pub record EndsLevel (allowed : Spelling) (level : Level) (depth : ℕ) (Then : 
   pub is : bytes ≡ items ++ (end ++ rest)
 
 -- The bytes end all levels.
-abbrev pub Ends : Spelling → ℕ → List Level → List ℕ → Type 0
+abbrev pub Ends : Spelling → ℕ → List Remaining → List ℕ → Type 0
 Ends allowed depth [] bytes = bytes ≡ []
 Ends allowed depth (level ∷ levels) bytes = EndsLevel allowed level depth (Ends allowed (suc depth) levels) bytes
 
@@ -52,18 +52,18 @@ pub record ItemThen (allowed : Spelling) (depth : ℕ) (Then : List ℕ → Type
   pub is : bytes ≡ item ++ rest
 
 -- A break ends the innermost level, and then come bytes with the property `Then`.
-pub record BreakThen (level : Level) (Then : List ℕ → Type 0) (bytes : List ℕ) : Type 0 where
+pub record BreakThen (level : Remaining) (Then : List ℕ → Type 0) (bytes : List ℕ) : Type 0 where
   pub rest : List ℕ
   pub may : ends_before level ≡ true
   pub behind : Then rest
   pub is : bytes ≡ 0xff ∷ rest
 
-abbrev pub Breaks : Spelling → ℕ → List Level → List ℕ → Type 0
+abbrev pub Breaks : Spelling → ℕ → List Remaining → List ℕ → Type 0
 Breaks allowed depth [] bytes = ⊥
 Breaks allowed depth (level ∷ levels) bytes = BreakThen level (Ends allowed (suc depth) levels) bytes
 
 -- The bytes that are due if an item is due: an item, or a break in its place.
-abbrev pub ItemDue : Spelling → ℕ → List Level → List ℕ → Type 0
+abbrev pub ItemDue : Spelling → ℕ → List Remaining → List ℕ → Type 0
 ItemDue allowed depth levels bytes = ItemThen allowed depth
     (Ends allowed depth levels) bytes ⊎ Breaks allowed depth levels bytes
 
@@ -89,13 +89,13 @@ abbrev pub EndsStrings : Spelling → Kind → ℕ → (List ℕ → Type 0) →
 EndsStrings allowed kind more Then bytes = EndsString allowed kind (Behind allowed kind more Then) bytes
 
 -- The bytes that are due if a title is due, for an item or within an open string.
-abbrev pub TitleDue : Spelling → Within → ℕ → List Level → List ℕ → Type 0
+abbrev pub TitleDue : Spelling → Within → ℕ → List Remaining → List ℕ → Type 0
 TitleDue allowed w.Nothing depth levels bytes = ItemDue allowed depth levels bytes
 TitleDue allowed (w.Open kind more) depth levels bytes =
     EndsStrings allowed (kind_of kind) more (Ends allowed depth levels) bytes
 
 -- The bytes that are due after a string of a definite length.
-abbrev pub StringDone : Spelling → Within → ℕ → List Level → List ℕ → Type 0
+abbrev pub StringDone : Spelling → Within → ℕ → List Remaining → List ℕ → Type 0
 StringDone allowed w.Nothing depth levels bytes = Ends allowed depth levels bytes
 StringDone allowed (w.Open kind more) depth levels bytes =
     EndsStrings allowed (kind_of kind) more (Ends allowed depth levels) bytes

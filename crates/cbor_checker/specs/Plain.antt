@@ -5,8 +5,8 @@ use Rattle.ciborium_ll_grammar.specs.declared.spelling.Spelling.{Spelling}
 use Rattle.ciborium_ll_grammar.specs.Title.{affix_len}
 use Rattle.cbor_checker.specs.declared.phase.Phase.TheVariants as p
 use Rattle.cbor_parser.specs.declared.strings.Within.TheVariants as w
-use Rattle.cbor_checker.specs.declared.level.Level.{Level}
-use Rattle.cbor_checker.specs.declared.level.Level.TheVariants as l
+use Rattle.cbor_nests.specs.declared.remaining.Remaining.{Remaining}
+use Rattle.cbor_nests.specs.declared.remaining.Remaining.TheVariants as l
 use Rattle.cbor_checker.specs.Spots.{Spot, item_done, item_due}
 use Rattle.cbor_checker.specs.Steps.{Leads}
 
@@ -47,24 +47,24 @@ pub data ArePlain (allowed : Spelling) (offset first : ℕ) : ℕ → ℕ → Li
 
 -- How many items are due in a nest after the current item, if they are counted (RFC 7049, 2.1): 4 for two pairs, and 5
 -- for a value and two pairs. The items of `9f` are not counted.
-abbrev pub counted_behind : Level → Option ℕ
+abbrev pub counted_behind : Remaining → Option ℕ
 counted_behind (l.Items count) = Some count
 counted_behind (l.Pairs count) = Some (2 * count)
 counted_behind (l.Value count) = Some (2 * count + 1)
 counted_behind level = None
 
 -- This many items, as pairs: 4 are two pairs, and 5 are a value and two pairs.
-abbrev pub pairs_of : ℕ → Level
+abbrev pub pairs_of : ℕ → Remaining
 pairs_of left = if left % 2 == 0 then l.Pairs (left / 2) else l.Value (left / 2)
 
 -- The nest with this many items after the item that is due. With 5, a nest of items has five items, and one of pairs
 -- has a value and two pairs.
-abbrev pub lowered : ℕ → Level → Level
+abbrev pub lowered : ℕ → Remaining → Remaining
 lowered left (l.Items count) = l.Items left
 lowered left level = pairs_of left
 
 -- If an item is due and a level is left, this byte is the title of a nest. `level` is the rest of the nest after the
 -- item that is due in it (RFC 7049, 2.1): one item for `82`.
-abbrev pub IsNestTitle : ℕ → Level → Type 0
+abbrev pub IsNestTitle : ℕ → Remaining → Type 0
 IsNestTitle first level = (spot : Spot) → spot.phase ≡ p.Title → length spot.front ≡ 0 → spot.within ≡ w.Nothing
     → 0 < spot.depth → Leads spot (first ∷ []) (item_due (spot.depth - 1) (level ∷ spot.levels) (passed 1 spot))

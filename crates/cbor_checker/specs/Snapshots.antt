@@ -7,8 +7,8 @@ use Rattle.ciborium_ll_grammar.specs.declared.spelling.Spelling.{Spelling}
 use Rattle.ciborium_ll_grammar.specs.declared.spelling.Spelling.TheVariants.{Any, Shortest}
 use Rattle.ciborium_ll_text.specs.declared.state.State.{State}
 use Rattle.ciborium_ll_text.specs.Numbers.{state_in}
-use Rattle.cbor_checker.specs.declared.level.Level.{Level}
-use Rattle.cbor_checker.specs.declared.level.Level.TheVariants as l
+use Rattle.cbor_nests.specs.declared.remaining.Remaining.{Remaining}
+use Rattle.cbor_nests.specs.declared.remaining.Remaining.TheVariants as l
 use Rattle.cbor_checker.specs.declared.phase.Phase.{Phase}
 use Rattle.cbor_checker.specs.declared.phase.Phase.TheVariants as p
 use Rattle.cbor_checker.specs.declared.phase.Fault.TheVariants as f
@@ -41,7 +41,7 @@ spelling_in number = if number == 0 then Some Any else (if number == 1 then Some
 
 -- The rest of a nest after the item that is due in it, by the number of its kind and a count. Kind 1 with the count 2
 -- is two pairs.
-abbrev pub level_in : ℕ → ℕ → Option Level
+abbrev pub level_in : ℕ → ℕ → Option Remaining
 level_in kind count =
     if kind == 0 then Some (l.Items count) else
     (if kind == 1 then Some (l.Pairs count) else
@@ -51,14 +51,14 @@ level_in kind count =
     (if kind == 5 then Some l.OpenValue else None)))))
 
 -- A nest within others, if they are all there: one item within a value and one pair, as after `a2 82`.
-abbrev pub within_others : Option Level → Option (List Level) → Option (List Level)
+abbrev pub within_others : Option Remaining → Option (List Remaining) → Option (List Remaining)
 within_others (Some level) (Some levels) = Some (level ∷ levels)
 within_others (Some level) None = None
 within_others None levels = None
 
 -- This many nests, each by its kind and its count. The innermost is the last of them: the kinds 0 and 1 with the counts
 -- 2 and 3 are three pairs within two items.
-abbrev pub levels_in : ℕ → List ℕ → List ℕ → Option (List Level)
+abbrev pub levels_in : ℕ → List ℕ → List ℕ → Option (List Remaining)
 levels_in zero kinds counts = Some []
 levels_in (suc len) kinds counts =
     within_others (level_in (slice_index kinds len) (slice_index counts len)) (levels_in len kinds counts)

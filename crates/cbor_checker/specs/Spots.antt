@@ -6,7 +6,7 @@ use Rattle.ciborium_ll_grammar.specs.declared.hdr.Header.{Header}
 use Rattle.ciborium_ll_grammar.specs.declared.hdr.Header.TheVariants as h
 use Rattle.ciborium_ll_grammar.specs.Title.{title_len}
 use Rattle.ciborium_ll_text.specs.declared.state.State.TheVariants as s
-use Rattle.cbor_checker.specs.declared.level.Level.{Level}
+use Rattle.cbor_nests.specs.declared.remaining.Remaining.{Remaining}
 use Rattle.cbor_checker.specs.declared.phase.Phase.{Phase}
 use Rattle.cbor_checker.specs.declared.phase.Phase.TheVariants as p
 use Rattle.cbor_parser.specs.declared.strings.StringKind.{StringKind}
@@ -15,7 +15,8 @@ use Rattle.cbor_parser.specs.declared.strings.Within.{Within}
 use Rattle.cbor_parser.specs.declared.strings.Within.TheVariants as w
 use Rattle.cbor_parser.specs.Strings.{within_after}
 use Rattle.cbor_checker.specs.declared.phase.Fault.TheVariants as f
-use Rattle.cbor_checker.specs.Levels.{contents, ends_before, next}
+use Rattle.cbor_nests.specs.Remaining.{contents, next}
+use Rattle.cbor_checker.specs.Levels.{ends_before}
 
 -- The parts in turn: whether only the shortest spelling is taken, what is due, the bytes of a title that isn't whole,
 -- and the open strings. Then the levels left, the nests around the item (the innermost first), the place that a fault
@@ -27,7 +28,7 @@ pub record Spot : Type 0 where
   pub front : List ℕ
   pub within : Within
   pub depth : ℕ
-  pub levels : List Level
+  pub levels : List Remaining
   pub place : ℕ
   pub offset : ℕ
 
@@ -36,13 +37,13 @@ abbrev pub at_phase : Phase → Spot → Spot
 at_phase phase spot = record spot { phase = phase }
 
 -- An item is due in the innermost nest. The first of `levels` is the rest of that nest after it: one item after `82`.
-abbrev pub item_due : ℕ → List Level → Spot → Spot
+abbrev pub item_due : ℕ → List Remaining → Spot → Spot
 item_due depth levels spot =
     record spot { phase = p.Title; within = w.Nothing; depth = depth; levels = levels }
 
 -- The spot after a whole item: nests that are done end too, as the array of `82 01 02` with its second item. Without a
 -- nest left, the whole item has ended (RFC 7049, 2.1, 2.2.1 and 2.4).
-abbrev pub settled : ℕ → List Level → Spot → Spot
+abbrev pub settled : ℕ → List Remaining → Spot → Spot
 settled depth [] spot = record spot { phase = p.Ended; within = w.Nothing; depth = depth; levels = [] }
 settled depth (level ∷ levels) spot =
     elim (next level) [ None ↦ settled (suc depth) levels spot | Some left ↦ item_due depth (left ∷ levels) spot ]
@@ -73,12 +74,12 @@ string_open kind spot = record spot { phase = p.Title; within = w.Open kind zero
 
 -- The spot after the title of a nest (RFC 7049, 2.1 and 2.4). Without a level left there is a fault, and an empty nest,
 -- as `80`, is done.
-abbrev pub nested : ℕ → Level → Spot → Spot
+abbrev pub nested : ℕ → Remaining → Spot → Spot
 nested zero inner spot = at_phase (p.Faulted (f.Deep spot.place)) spot
 nested (suc depth) inner spot = settled depth (inner ∷ spot.levels) spot
 
 -- The spot after a break in place of an item (RFC 7049, 2.2.1): `9f ff` is done, and `81 ff` has a fault at 1.
-abbrev pub broken : List Level → Spot → Spot
+abbrev pub broken : List Remaining → Spot → Spot
 broken [] spot = at_phase (p.Faulted (f.Break spot.place)) spot
 broken (level ∷ levels) spot =
     elim (ends_before level) [

@@ -1,6 +1,6 @@
 -- A checker during a call as the spot that it has come to. The numbers of its nests stand in the caller's memory.
 use Rattle.std.specs.Prelude.{◌≡◌, ◌-◌, ℕ, List, length, take, drop}
-use Rattle.cbor_checker.specs.declared.level.Level.{Level}
+use Rattle.cbor_nests.specs.declared.remaining.Remaining.{Remaining}
 use Rattle.cbor_checker.specs.declared.levels.Levels.{Levels}
 use Rattle.cbor_checker.specs.declared.walk.Walk.{Walk}
 use Rattle.cbor_checker.specs.Snapshots.{levels_in}
@@ -9,7 +9,7 @@ use Rattle.cbor_checker.specs.Stack.{levels_of}
 
 -- The nests whose numbers stand in that memory. With the length 1, the first kind 0 and the first count 1 are one item,
 -- as after `82`.
-abbrev pub levels_at : Levels → List Level
+abbrev pub levels_at : Levels → List Remaining
 levels_at l = levels_of (levels_in l.len l.kinds.now l.counts.now)
 
 -- The memory is the same, even if a count in it changed from 2 to 1.

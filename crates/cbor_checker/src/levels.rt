@@ -5,13 +5,14 @@ ghost use Rattle.cbor_checker.specs.Snapshots.{levels_in};
 ghost use Rattle.cbor_checker.specs.Stack.{innermost, others};
 ghost use Rattle.ciborium_ll_grammar.specs.declared.limits.TheConstants.{MOST_LEVELS};
 
-use crate::level::Level;
+use crate::level::{level_of, numbers_of};
+use cbor_nests::Remaining;
 use ciborium_ll_grammar::limits::MOST_LEVELS;
 
-/// The number of the kind of [`Level::Items`].
+/// The number of the kind of [`Remaining::Items`].
 const ITEMS: u8 = 0;
 
-/// The number of the kind of [`Level::Value`]. The kinds of indefinite length have greater numbers.
+/// The number of the kind of [`Remaining::Value`]. The kinds of indefinite length have greater numbers.
 const VALUE: u8 = 2;
 
 /// The rests of the nests around an item, the innermost last. The numbers stand in the caller's memory, and a call
@@ -35,14 +36,14 @@ impl Levels<'_> {
 
     /// Returns the innermost level, if there is one.
     #[inline(always)]
-    pub(crate) fn innermost(&mut self) -> Option<Level>
+    pub(crate) fn innermost(&mut self) -> Option<Remaining>
         ensures found { result ≡ innermost (levels_at self.old) }
         ensures same { self.new ≡ self.old }
     {
         if self.len == 0 {
             return None;
         }
-        Level::of(self.kinds[self.len - 1], self.counts[self.len - 1] as usize)
+        level_of(self.kinds[self.len - 1], self.counts[self.len - 1] as usize)
     }
 
     /// Removes the innermost level.
@@ -134,13 +135,13 @@ impl Levels<'_> {
 
     /// Replaces the innermost level.
     #[inline(always)]
-    pub(crate) fn replace(&mut self, level: Level)
+    pub(crate) fn replace(&mut self, level: Remaining)
         requires { 0 < self.old.len }
         ensures put { levels_at self.new ≡ level ∷ others (levels_at self.old) }
         ensures len { self.new.len ≡ self.old.len }
         ensures lent { AreLent self.old self.new }
     {
-        let (kind, count) = level.numbers();
+        let (kind, count) = numbers_of(level);
         let at = self.len - 1;
         self.kinds[at] = kind;
         self.counts[at] = count as u64;
@@ -148,13 +149,13 @@ impl Levels<'_> {
 
     /// Adds a level within the others.
     #[inline(always)]
-    pub(crate) fn push(&mut self, level: Level)
+    pub(crate) fn push(&mut self, level: Remaining)
         requires { self.old.len < MOST_LEVELS }
         ensures pushed { levels_at self.new ≡ level ∷ levels_at self.old }
         ensures len { self.new.len ≡ self.old.len + 1 }
         ensures lent { AreLent self.old self.new }
     {
-        let (kind, count) = level.numbers();
+        let (kind, count) = numbers_of(level);
         self.kinds[self.len] = kind;
         self.counts[self.len] = count as u64;
         self.len += 1;
@@ -188,7 +189,7 @@ pub(crate) fn are_levels(len: usize, kinds: &[u8; MOST_LEVELS], counts: &[u64; M
     ensures no { result ≡ false → levels_in len kinds.now counts.now ≡ None }
 {
     for at in 0..len {
-        if Level::of(kinds[at], counts[at] as usize).is_none() {
+        if level_of(kinds[at], counts[at] as usize).is_none() {
             return false;
         }
     }

@@ -12,11 +12,12 @@ ghost use Rattle.ciborium_ll_grammar.specs.declared.limits.TheConstants.{MOST_LE
 
 mod nests;
 
-use crate::level::Level;
+use crate::level::ends_before;
 use crate::levels::Levels;
 use crate::phase::{Fault, Phase};
 use crate::plain::is_short_ascii;
 use crate::title::{blocked, is_single};
+use cbor_nests::Remaining;
 use cbor_parser::begun::begins_none;
 use cbor_parser::strings::{StringKind, Within};
 use cbor_parser::title::taken_header;
@@ -134,7 +135,7 @@ impl Walk<'_> {
 
     /// Enters a tag, an array or a map. Returns whether an item is due next.
     #[inline(always)]
-    fn nested(&mut self, inner: Level) -> bool
+    fn nested(&mut self, inner: Remaining) -> bool
         requires phase { self.old.phase ≡ p.Title }
         requires fresh { length self.old.front ≡ 0 }
         requires due { self.old.within ≡ w.Nothing }
@@ -171,7 +172,7 @@ impl Walk<'_> {
         ensures lent { AreLent self.old.levels self.new.levels }
     {
         match self.levels.innermost() {
-            Some(level) if level.ends_before() => {
+            Some(level) if ends_before(level) => {
                 self.levels.pop();
                 self.depth += 1;
                 self.item_over()
@@ -226,7 +227,7 @@ impl Walk<'_> {
                 false
             }
             Header::Tag(_) | Header::Array(_) | Header::Map(_) => {
-                self.nested(Level::behind(header))
+                self.nested(Remaining::contents_of(header))
             }
             Header::Break => self.broken(),
             Header::Positive(_) | Header::Negative(_) | Header::Float(_) | Header::Simple(_) => {

@@ -17,12 +17,12 @@ use Rattle.cbor_checker.specs.declared.phase.Fault.{Fault}
 use Rattle.cbor_checker.specs.declared.phase.Fault.TheVariants as f
 use Rattle.cbor_parser.specs.declared.strings.Within.{Within}
 use Rattle.cbor_parser.specs.declared.strings.Within.TheVariants as w
-use Rattle.cbor_checker.specs.Levels.{next}
+use Rattle.cbor_nests.specs.Remaining.{next}
 use Rattle.cbor_checker.specs.Spots.{Spot, settled, broken, item_entered, entered}
 use Rattle.cbor_parser.specs.Titles.{SomeTaken}
 use Rattle.cbor_checker.specs.Steps.{TitleStep, cut, early, whole, none, with_byte}
 use Rattle.cbor_checker.proofs.EnterLaws.{break_bytes}
-use Rattle.cbor_checker_laws.proofs.Levels.{Level}
+use Rattle.cbor_nests.specs.declared.remaining.Remaining.{Remaining}
 use Rattle.cbor_checker_laws.proofs.Runs.{Runs, fault_of, next_of, at, inside}
 use Rattle.cbor_checker_laws.proofs.TitleRuns.{Faults, Titled, taken, known, untaken}
 use Rattle.cbor_checker_laws.proofs.StringRuns.{break_taken}
@@ -34,7 +34,7 @@ use Rattle.cbor_checker_laws.specs.SameFaults.{HasLongNest}
 
 -- ---- no title
 
-module _ (fault : Fault) (s : Spelling) (i : Within) (d : ℕ) (gs : List Level) (a n : ℕ) where
+module _ (fault : Fault) (s : Spelling) (i : Within) (d : ℕ) (gs : List Remaining) (a n : ℕ) where
   refused_step : (b : ℕ) (next : Spot) (due : List ℕ) → BeginsRefused (b ∷ [])
       → TitleStep (with_byte b (at s i d gs a n)) next → Runs fault next due → fault ≡ f.Syntax n
   refused_step b next due bad (cut is_cut o may) runs = absurd (refused_begins_none b o.0 o.1 bad o.2)
@@ -50,12 +50,12 @@ module _ (fault : Fault) (s : Spelling) (i : Within) (d : ℕ) (gs : List Level)
 -- ---- a title within a string
 
 -- No fault stands after a whole item.
-settled_sound : (gs : List Level) (d : ℕ) (u : Spot)
+settled_sound : (gs : List Remaining) (d : ℕ) (u : Spot)
     → ((settled d gs u).phase ≡ p.Title) ⊎ ((settled d gs u).phase ≡ p.Ended)
 settled_sound [] d u = inr refl
 settled_sound (g ∷ gs) d u = let one = settled_sound gs (suc d) u in grind (arith, nat_tests)
 
-module _ (fault : Fault) (s : Spelling) (d : ℕ) (gs : List Level) (a n : ℕ) (k : Kind) (j : ℕ) (x : Header) where
+module _ (fault : Fault) (s : Spelling) (d : ℕ) (gs : List Remaining) (a n : ℕ) (k : Kind) (j : ℕ) (x : Header) where
   -- If the header `x` leads to a fault within a string, this is `Syntax` at the header's place.
   string_known : Faults fault (entered (inside k j) x (at s (inside k j) d gs a n)) → fault ≡ f.Syntax a
   string_known is = grind (arith, nat_tests, settled_sound)
@@ -79,7 +79,7 @@ pub record DeepAt (x : Header) (d : ℕ) (fault : Fault) (a : ℕ) : Type 0 wher
   pub none_left : d ≡ 0
   pub deep : fault ≡ f.Deep a
 
-module _ (fault : Fault) (s : Spelling) (gs : List Level) (a n : ℕ) where
+module _ (fault : Fault) (s : Spelling) (gs : List Remaining) (a n : ℕ) where
   item_known : (d : ℕ) (x : Header) → Faults fault (item_entered x (at s w.Nothing d gs a n))
       → (x ≡ h.Break) ⊎ DeepAt x d fault a
   item_known d x is = grind (arith, nat_tests, settled_sound)
@@ -99,7 +99,7 @@ module _ (fault : Fault) (s : Spelling) (gs : List Level) (a n : ℕ) where
   nest_deep x nest = grind (arith, nat_tests)
 
   -- A break that may not stand there leads to `Break`.
-  pub break_early : (d : ℕ) (fs : List Level) → can_close fs ≡ false
+  pub break_early : (d : ℕ) (fs : List Remaining) → can_close fs ≡ false
       → Faults (f.Break a) (broken fs (at s w.Nothing d gs a n))
   break_early d fs bad = grind (arith, nat_tests)
 
@@ -134,7 +134,7 @@ some_begins Shortest b m x byte q never some =
     let long : length m ≡ affix_len (b % 32) = rw (first, affix) at o.long in
     strict_some (b ∷ []) (byte_below b byte) (omega arith) (omega (arith, long, some)) (begins_none b)
 
-module _ (fault : Fault) (s : Spelling) (gs : List Level) (a n : ℕ) where
+module _ (fault : Fault) (s : Spelling) (gs : List Remaining) (a n : ℕ) where
   deep_step : (b : ℕ) (m : List ℕ) (x : Header) (next : Spot) (due : List ℕ) → IsTitle (b ∷ m) x → IsNest x
       → 0 < length m → SomeTaken s (b ∷ []) → TitleStep (with_byte b (at s w.Nothing 0 gs a n)) next
       → Runs fault next due → fault ≡ f.Deep n

@@ -18,37 +18,38 @@ use Rattle.cbor_checker.specs.declared.phase.Fault.{Fault}
 use Rattle.cbor_parser.specs.declared.strings.StringKind.TheVariants as sk
 use Rattle.cbor_parser.specs.declared.strings.Within.{Within}
 use Rattle.cbor_parser.specs.declared.strings.Within.TheVariants as w
-use Rattle.cbor_checker.specs.Levels.{contents, next}
+use Rattle.cbor_nests.specs.Remaining.{contents, next}
 use Rattle.cbor_checker.specs.Spots.{broken, settled, item_entered, bytes_due, text_due}
 use Rattle.cbor_skip.specs.Due.{IsNest, TakesMore, may_close}
-use Rattle.cbor_checker_laws.proofs.Levels.{Level, reached, reached_first, reached_next, reached_closes, takes_nest}
+use Rattle.cbor_nests.specs.declared.remaining.Remaining.{Remaining}
+use Rattle.cbor_checker_laws.proofs.Levels.{reached, reached_first, reached_next, reached_closes, takes_nest}
 use Rattle.cbor_checker_laws.proofs.Runs.{On, on_to, at, behind, settled_with}
 use Rattle.cbor_checker_laws.proofs.TitleRuns.{taken_on}
 use Rattle.cbor_checker_laws.proofs.StringRuns.{bytes_on, text_on, Inside, break_taken, strings_taken_on}
 
 -- The title of a nest leads into the nest.
-nest_entered : (x : Header) (s : Spelling) (d : ℕ) (gs : List Level) (a n : ℕ) → IsNest x
+nest_entered : (x : Header) (s : Spelling) (d : ℕ) (gs : List Remaining) (a n : ℕ) → IsNest x
     → item_entered x (at s w.Nothing (suc d) gs a n) ≡ settled d (contents x ∷ gs) (at s w.Nothing (suc d) gs a n)
 nest_entered x s d gs a n nest = grind (arith, nat_tests)
 
 module _ (fault : Fault) (all : ℕ) (s : Spelling) where
   -- The run is after an item or the title of a nest.
-  abbrev pub Behind : ℕ → List Level → List ℕ → Type 0
+  abbrev pub Behind : ℕ → List Remaining → List ℕ → Type 0
   Behind d gs due = On fault all (behind s d gs) due
 
-  on_behind : (i : Within) (c d : ℕ) (fs gs : List Level) {due : List ℕ}
+  on_behind : (i : Within) (c d : ℕ) (fs gs : List Remaining) {due : List ℕ}
       → On fault all (λ a n. settled d gs (at s i c fs a n)) due → Behind d gs due
   on_behind i c d fs gs o = on_to (behind s d gs) (settled_with gs d s i c fs) o
 
   -- The run leads over a break that ends the outermost string.
-  string_closed_on : (k : Kind) (d : ℕ) (gs : List Level) (rest : List ℕ) → Inside fault all s d gs k 0 (0xff ∷ rest)
+  string_closed_on : (k : Kind) (d : ℕ) (gs : List Remaining) (rest : List ℕ) → Inside fault all s d gs k 0 (0xff ∷ rest)
       → Behind d gs rest
   string_closed_on Bytes d gs rest o =
       on_behind (w.Open sk.Bytes 0) d d gs gs (taken_on h.Break (0xff ∷ []) rest break_title (break_taken s) o)
   string_closed_on Text d gs rest o =
       on_behind (w.Open sk.Text 0) d d gs gs (taken_on h.Break (0xff ∷ []) rest break_title (break_taken s) o)
 
-  open_completes : (k : Kind) (d : ℕ) (gs : List Level) (u rest : List ℕ) (bs : List (List ℕ)) → AreStrings k u bs
+  open_completes : (k : Kind) (d : ℕ) (gs : List Remaining) (u rest : List ℕ) (bs : List (List ℕ)) → AreStrings k u bs
       → AreTakenStrings s k u bs → AreWritable k bs → Inside fault all s d gs k 0 ((u ++ 0xff ∷ []) ++ rest)
       → Behind d gs rest
   open_completes k d gs u rest bs are taken sound o =
@@ -58,19 +59,19 @@ module _ (fault : Fault) (all : ℕ) (s : Spelling) where
   -- ---- a nest
 
   -- The run is after the title of the nest.
-  pub nest_begun : (x : Header) (c : ℕ) (gs : List Level) (due : List ℕ) → IsNest x
+  pub nest_begun : (x : Header) (c : ℕ) (gs : List Remaining) (due : List ℕ) → IsNest x
       → On fault all (λ a n. item_entered x (at s w.Nothing (suc c) gs a n)) due → Behind c (reached x 0 ∷ gs) due
   nest_begun x c gs due nest o =
       rw (reached_first x) (on_behind w.Nothing (suc c) c gs (contents x ∷ gs)
       (on_to _ (λ a n. nest_entered x s c gs a n nest) o))
 
   -- If the nest takes one more item, this item is due.
-  pub nest_due : (x : Header) (m d : ℕ) (gs : List Level) (due : List ℕ) → TakesMore x m
+  pub nest_due : (x : Header) (m d : ℕ) (gs : List Remaining) (due : List ℕ) → TakesMore x m
       → Behind d (reached x m ∷ gs) due → On fault all (at s w.Nothing d (reached x (suc m) ∷ gs)) due
   nest_due x m d gs due takes o = on_to _ (λ a n. rw (reached_next x m takes, settled) refl) o
 
   -- The run leads over a break that ends the nest.
-  nest_closed_on : (x : Header) (m c : ℕ) (gs : List Level) (rest : List ℕ) → TakesMore x m → may_close x m ≡ true
+  nest_closed_on : (x : Header) (m c : ℕ) (gs : List Remaining) (rest : List ℕ) → TakesMore x m → may_close x m ≡ true
       → Behind c (reached x m ∷ gs) (0xff ∷ rest) → Behind (suc c) gs rest
   nest_closed_on x m c gs rest takes may o =
       on_behind w.Nothing c (suc c) (reached x (suc m) ∷ gs) gs
@@ -78,13 +79,13 @@ module _ (fault : Fault) (all : ℕ) (s : Spelling) where
       (taken_on h.Break (0xff ∷ []) rest break_title (break_taken s) (nest_due x m c gs (0xff ∷ rest) takes o)))
 
   -- `whole_nest` leads the run over a nest of `count` items, and `open_nest` over a nest that a break ends.
-  whole_nest : (x : Header) (count c : ℕ) (u : List ℕ) (gs : List Level) (rest : List ℕ) → next (reached x count) ≡ None
+  whole_nest : (x : Header) (count c : ℕ) (u : List ℕ) (gs : List Remaining) (rest : List ℕ) → next (reached x count) ≡ None
       → IsNest x → (Behind c (reached x 0 ∷ gs) (u ++ rest) → Behind c (reached x count ∷ gs) rest)
       → On fault all (λ a n. item_entered x (at s w.Nothing (suc c) gs a n)) (u ++ rest) → Behind (suc c) gs rest
   whole_nest x count c u gs rest last nest over o =
       on_to _ (λ a n. rw (last, settled) refl) (over (nest_begun x c gs (u ++ rest) nest o))
 
-  open_nest : (x : Header) (count c : ℕ) (u : List ℕ) (gs : List Level) (rest : List ℕ) → may_close x count ≡ true
+  open_nest : (x : Header) (count c : ℕ) (u : List ℕ) (gs : List Remaining) (rest : List ℕ) → may_close x count ≡ true
       → TakesMore x count
       → (Behind c (reached x 0 ∷ gs) (u ++ 0xff ∷ rest) → Behind c (reached x count ∷ gs) (0xff ∷ rest))
       → On fault all (λ a n. item_entered x (at s w.Nothing (suc c) gs a n)) ((u ++ 0xff ∷ []) ++ rest)
@@ -95,7 +96,7 @@ module _ (fault : Fault) (all : ℕ) (s : Spelling) where
 
   mutual
     -- The run leads over the bytes that complete an item after its title.
-    pub completes_on : {c : ℕ} {x : Header} {r : List ℕ} → Completes s c x r → (gs : List Level) (rest : List ℕ)
+    pub completes_on : {c : ℕ} {x : Header} {r : List ℕ} → Completes s c x r → (gs : List Remaining) (rest : List ℕ)
         → On fault all (λ a n. item_entered x (at s w.Nothing c gs a n)) (r ++ rest) → Behind c gs rest
     completes_on {c} positive gs rest o = on_behind w.Nothing c c gs gs o
     completes_on {c} negative gs rest o = on_behind w.Nothing c c gs gs o
@@ -132,7 +133,7 @@ module _ (fault : Fault) (all : ℕ) (s : Spelling) where
 
     -- The run leads over `k` items in a nest.
     pub items_on : {d k : ℕ} {u : List ℕ} → AreItems s d k u
-        → (x : Header) (m end : ℕ) (gs : List Level) (rest : List ℕ) → m + k ≡ end → ((i : ℕ) → i < end → TakesMore x i)
+        → (x : Header) (m end : ℕ) (gs : List Remaining) (rest : List ℕ) → m + k ≡ end → ((i : ℕ) → i < end → TakesMore x i)
         → Behind d (reached x m ∷ gs) (u ++ rest) → Behind d (reached x end ∷ gs) rest
     items_on {d} no_items x m end gs rest e takes o =
         let same : m ≡ end = omega (arith, e) in

@@ -1,29 +1,21 @@
 -- The rest of a nest after several items.
-use Rattle.std.proofs.Common.{◌≡◌, ℕ, suc, ◌-◌, ◌*◌, ◌%◌, ◌≤◌, ◌==◌, if◌then◌else◌, Option, Some, None, arith}
+use Rattle.std.proofs.Common.{◌≡◌, ℕ, suc, ◌-◌, ◌*◌, ◌%◌, ◌≤◌, ◌==◌, if◌then◌else◌, Some, None, arith}
 use Rattle.std.proofs.lemmas.Bool.Decides.{nat_tests}
 use Rattle.ciborium_ll_grammar.specs.declared.hdr.Header.{Header}
 use Rattle.ciborium_ll_grammar.specs.declared.hdr.Header.TheVariants as h
-use Rattle.cbor_checker.specs.Levels.{contents, ends_before, next}
+use Rattle.cbor_nests.specs.declared.remaining.Remaining.{Remaining}
+use Rattle.cbor_nests.specs.declared.remaining.Remaining.TheVariants as r
+use Rattle.cbor_nests.specs.Remaining.{IsNest, contents, next}
+use Rattle.cbor_checker.specs.Levels.{ends_before}
 use Rattle.cbor_checker.specs.Plain.{pairs_of}
-use Rattle.cbor_skip.specs.Due.{IsNest, TakesMore, may_close}
-
-abbrev TypeOf : {A : Type 0} → A → Type 0
-TypeOf {A = A} a = A
-
--- The rest of a nest. No path outside of its crate names the type.
-abbrev pub Level : Type 0
-Level = TypeOf (contents h.Break)
-
-abbrev or_none : Option Level → Level
-or_none (Some level) = level
-or_none None = contents h.Break
+use Rattle.cbor_skip.specs.Due.{TakesMore, may_close}
 
 -- The rest of a nest after `n` items.
-abbrev pub reached : Header → ℕ → Level
-reached (h.Tag number) n = contents (h.Array (Some (1 - n)))
-reached (h.Array (Some len)) n = contents (h.Array (Some (len - n)))
+abbrev pub reached : Header → ℕ → Remaining
+reached (h.Tag number) n = r.Items (1 - n)
+reached (h.Array (Some len)) n = r.Items (len - n)
 reached (h.Map (Some len)) n = pairs_of (2 * len - n)
-reached (h.Map None) n = if n % 2 == 0 then contents (h.Map None) else or_none (next (contents (h.Map None)))
+reached (h.Map None) n = if n % 2 == 0 then r.OpenPairs else r.OpenValue
 reached x n = contents x
 
 pub reached_first : (x : Header) → reached x 0 ≡ contents x

@@ -19,26 +19,27 @@ use Rattle.cbor_parser.specs.declared.strings.Within.{Within}
 use Rattle.cbor_parser.specs.declared.strings.Within.TheVariants as w
 use Rattle.cbor_checker.specs.Levels.{ends_before}
 use Rattle.cbor_checker.specs.Spots.{Spot}
-use Rattle.cbor_checker_laws.proofs.Levels.{Level, reached, reached_closes, takes_before, takes_nest}
+use Rattle.cbor_nests.specs.declared.remaining.Remaining.{Remaining}
+use Rattle.cbor_checker_laws.proofs.Levels.{reached, reached_closes, takes_before, takes_nest}
 use Rattle.cbor_checker_laws.proofs.Runs.{Runs, On, at, inside}
 use Rattle.cbor_checker_laws.proofs.TitleRuns.{taken_on}
 use Rattle.cbor_checker_laws.proofs.StringRuns.{Inside, flat_on, open_on, strings_taken_on}
 use Rattle.cbor_checker_laws.proofs.ItemRuns.{nest_begun, nest_due, items_on}
 
 -- Whether a break may stand in place of an item that is due in these nests.
-abbrev pub can_close : List Level → Bool
+abbrev pub can_close : List Remaining → Bool
 can_close [] = false
 can_close (g ∷ gs) = ends_before g
 
 module _ (fault : Fault) (all : ℕ) (s : Spelling) where
   -- An item to `depth` levels is due, and `closable` says whether a break may stand in its place.
   pub record ItemOn (depth : ℕ) (closable : Bool) (due : List ℕ) : Type 0 where
-    pub levels : List Level
+    pub levels : List Remaining
     pub same : can_close levels ≡ closable
     pub on : On fault all (at s w.Nothing depth levels) due
 
   due_on : {outer closable : Bool} {depth left : ℕ} {bytes : List ℕ} → ItemDue s outer depth bytes left closable
-      → (gs : List Level) (rest : List ℕ) → can_close gs ≡ outer
+      → (gs : List Remaining) (rest : List ℕ) → can_close gs ≡ outer
       → On fault all (at s w.Nothing depth gs) (bytes ++ rest) → ItemOn left closable rest
   due_on here gs rest same o = record { levels = gs; same = same; on = o }
   due_on (within {depth = d} {count = count} {title = t} {items = u} {more = more} {header = x} q g takes are inner) gs
@@ -54,7 +55,7 @@ module _ (fault : Fault) (all : ℕ) (s : Spelling) where
   -- ---- within strings
 
   -- The run leads over an open, if an item is due.
-  first_open : (k : Kind) (d : ℕ) (gs : List Level) (t rest : List ℕ) → IsTitle t (kind_header k None)
+  first_open : (k : Kind) (d : ℕ) (gs : List Remaining) (t rest : List ℕ) → IsTitle t (kind_header k None)
       → IsTakenTitle s t (kind_header k None) → On fault all (at s w.Nothing d gs) (t ++ rest)
       → Inside fault all s d gs k 0 rest
   first_open Bytes d gs t rest q g o = taken_on (h.Bytes None) t rest q g o
@@ -63,7 +64,7 @@ module _ (fault : Fault) (all : ℕ) (s : Spelling) where
 open_taken : (k : Kind) → IsTakenTitle Shortest (shortest_title (kind_header k None)) (kind_header k None)
 open_taken k = grind (arith, nat_tests)
 
-module _ (fault : Fault) (all : ℕ) (k : Kind) (d : ℕ) (gs : List Level) where
+module _ (fault : Fault) (all : ℕ) (k : Kind) (d : ℕ) (gs : List Remaining) where
   -- The run leads over opens and strings within an open, from a spot at which an open may stand.
   any_inside : {u : List ℕ} {bs : List (List ℕ)} → IsInside k u bs → (From : List ℕ → Type 0) (rest : List ℕ)
       → ((t more : List ℕ) → IsTitle t (kind_header k None) → From (t ++ more)
@@ -88,7 +89,7 @@ module _ (fault : Fault) (all : ℕ) (k : Kind) (d : ℕ) (gs : List Level) wher
       (IsTitle-shortest (kind_header k None) (open_in_range k))
       (open_taken k) (rw (taken.1, append_assoc) at o))
 
-inside_on : (s : Spelling) (fault : Fault) (all : ℕ) (k : Kind) (d : ℕ) (gs : List Level) (u rest : List ℕ)
+inside_on : (s : Spelling) (fault : Fault) (all : ℕ) (k : Kind) (d : ℕ) (gs : List Remaining) (u rest : List ℕ)
     (bs : List (List ℕ)) → IsInside k u bs → IsTakenInside s k u bs → AreWritable k bs
     → On fault all (at s w.Nothing d gs) (u ++ rest) → (j : ℕ) × Inside fault all s d gs k j rest
 inside_on Shortest fault all k d gs u rest bs is taken sound o =
@@ -123,7 +124,7 @@ module _ (fault : Fault) (s : Spelling) (depth : ℕ) where
 
   -- An item to `left` levels is due after `n` bytes.
   pub record AtItem (left : ℕ) (closable : Bool) (n : ℕ) (due : List ℕ) : Type 0 where
-    pub levels : List Level
+    pub levels : List Remaining
     pub same : can_close levels ≡ closable
     pub place : ℕ
     pub runs : Runs fault (at s w.Nothing left levels place n) due
@@ -139,7 +140,7 @@ module _ (fault : Fault) (s : Spelling) (depth : ℕ) where
   -- A title is due after `n` bytes, within the open strings `i`.
   pub record AtTitle (i : Within) (n : ℕ) (due : List ℕ) : Type 0 where
     pub left : ℕ
-    pub levels : List Level
+    pub levels : List Remaining
     pub place : ℕ
     pub runs : Runs fault (at s i left levels place n) due
 

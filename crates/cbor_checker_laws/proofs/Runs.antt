@@ -3,7 +3,7 @@ use Rattle.std.proofs.Common.{◌≡◌, ℕ, ◌+◌, ◌<◌, true, List, [], 
 use Rattle.std.proofs.Common.{append_assoc}
 use Rattle.ciborium_ll_grammar.specs.declared.spelling.Spelling.{Spelling}
 use Rattle.ciborium_ll_grammar.specs.Strings.{Kind, Bytes, Text}
-use Rattle.cbor_checker_laws.proofs.Levels.{Level}
+use Rattle.cbor_nests.specs.declared.remaining.Remaining.{Remaining}
 use Rattle.cbor_checker.specs.declared.phase.Phase.{Phase}
 use Rattle.cbor_checker.specs.declared.phase.Phase.TheVariants as p
 use Rattle.cbor_checker.specs.declared.phase.Fault.{Fault}
@@ -74,7 +74,7 @@ on_to {fault} {due = due} to' same o = record {
 -- ---- spots without a part of a title
 
 -- A title is due.
-abbrev pub at : Spelling → Within → ℕ → List Level → ℕ → ℕ → Spot
+abbrev pub at : Spelling → Within → ℕ → List Remaining → ℕ → ℕ → Spot
 at s i d gs a n = record (start s d) { within = i; levels = gs; place = a; offset = n }
 
 -- A string of the kind is open, and `n` further strings in it.
@@ -83,11 +83,11 @@ inside Bytes n = w.Open sk.Bytes n
 inside Text n = w.Open sk.Text n
 
 -- The spot is after an item, or after the title of a nest.
-abbrev pub behind : Spelling → ℕ → List Level → ℕ → ℕ → Spot
+abbrev pub behind : Spelling → ℕ → List Remaining → ℕ → ℕ → Spot
 behind s d gs a n = settled d gs (at s w.Nothing 0 [] a n)
 
 -- This spot does not depend on the part that was due, the open strings or the nests before.
-pub settled_with : (gs : List Level) (d : ℕ) (s : Spelling) (i : Within) (c : ℕ) (fs : List Level) (a n : ℕ)
+pub settled_with : (gs : List Remaining) (d : ℕ) (s : Spelling) (i : Within) (c : ℕ) (fs : List Remaining) (a n : ℕ)
     → settled d gs (at s i c fs a n) ≡ behind s d gs a n
 settled_with gs d s i c fs a n =
     settled_alike gs d (at s i 0 [] a n) c fs ∙ settled_anyhow gs d (at s w.Nothing 0 [] a n) p.Title i

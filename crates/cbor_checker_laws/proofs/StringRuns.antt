@@ -14,7 +14,7 @@ use Rattle.cbor_parser.specs.declared.strings.Within.{Within}
 use Rattle.cbor_checker.specs.Spots.{Spot, string_done, bytes_due, text_due}
 use Rattle.cbor_checker.specs.Steps.{text_left}
 use Rattle.cbor_checker.proofs.LeadLaws.{between_ends, due_alike, left_alike}
-use Rattle.cbor_checker_laws.proofs.Levels.{Level}
+use Rattle.cbor_nests.specs.declared.remaining.Remaining.{Remaining}
 use Rattle.cbor_checker_laws.proofs.Runs.{Runs, fault_of, next_of, some_due, On, on_to, at, inside}
 use Rattle.ciborium_ll_grammar.specs.declared.spelling.Spelling.{Spelling}
 use Rattle.ciborium_ll_grammar.specs.declared.spelling.Spelling.TheVariants.{Any, Shortest}
@@ -44,7 +44,7 @@ one_on : {fault : Fault} {all b : ℕ} {to : ℕ → ℕ → Spot} {rest : List 
     → (o : On fault all to (b ∷ rest)) → Runs fault (to' o.place (o.offset + 1)) rest → On fault all to' rest
 one_on to' o runs = record { place = o.place; offset = o.offset + 1; counts = omega (arith, o.counts); runs = runs }
 
-module _ {fault : Fault} {all : ℕ} (s : Spelling) (i : Within) (d : ℕ) (gs : List Level) where
+module _ {fault : Fault} {all : ℕ} (s : Spelling) (i : Within) (d : ℕ) (gs : List Remaining) where
   -- The run leads over the body of a byte string.
   pub bytes_on : (body rest : List ℕ) → On fault all (λ a n. bytes_due (length body) (at s i d gs a n)) (body ++ rest)
       → On fault all (λ a n. string_done i (at s i d gs a n)) rest
@@ -79,7 +79,7 @@ module _ {fault : Fault} {all : ℕ} (s : Spelling) (i : Within) (d : ℕ) (gs :
 
 -- ---- a body that is no text
 
-module _ (fault : Fault) (s : Spelling) (i : Within) (d : ℕ) (gs : List Level) (a : ℕ) where
+module _ (fault : Fault) (s : Spelling) (i : Within) (d : ℕ) (gs : List Remaining) (a : ℕ) where
   -- After a byte there is a fault, or the text goes on.
   next_fails : (may : Bool) (left : ℕ) (to : State) (n : ℕ) (rest : List ℕ)
       → Runs fault (text_left may left to (at s i d gs a n)) rest
@@ -113,7 +113,7 @@ module _ (fault : Fault) (s : Spelling) (i : Within) (d : ℕ) (gs : List Level)
 pub break_taken : (s : Spelling) → IsTakenTitle s (0xff ∷ []) h.Break
 break_taken s = grind (arith, nat_tests)
 
-module _ (fault : Fault) (all : ℕ) (s : Spelling) (d : ℕ) (gs : List Level) where
+module _ (fault : Fault) (all : ℕ) (s : Spelling) (d : ℕ) (gs : List Remaining) where
   -- The run is within `j` open strings and one more.
   abbrev pub Inside : Kind → ℕ → List ℕ → Type 0
   Inside k j due = On fault all (at s (inside k j) d gs) due
@@ -158,7 +158,7 @@ module _ (fault : Fault) (all : ℕ) (s : Spelling) (d : ℕ) (gs : List Level) 
           (string_on i j (v ++ rest) (AreWritable-left k cs ds sound) (rw append_assoc at o))
 
 -- The run leads over strings of a definite length, each under a strict title.
-pub flat_on : (fault : Fault) (all : ℕ) (d : ℕ) (gs : List Level) (k : Kind) {u : List ℕ} {bs : List (List ℕ)}
+pub flat_on : (fault : Fault) (all : ℕ) (d : ℕ) (gs : List Remaining) (k : Kind) {u : List ℕ} {bs : List (List ℕ)}
     → AreFlat k u bs → (j : ℕ) (rest : List ℕ) → AreWritable k bs → Inside fault all Shortest d gs k j (u ++ rest)
     → Inside fault all Shortest d gs k j rest
 flat_on fault all d gs k no_flat j rest sound o = o
@@ -167,7 +167,7 @@ flat_on fault all d gs k (more_flat {title = t} {body = b} {rest = v} q g f) j r
     (whole_on fault all Shortest d gs k j t b (v ++ rest) q g sound.0 (simp append_assoc at o))
 
 -- The run leads over strings that are taken.
-pub strings_taken_on : (fault : Fault) (all : ℕ) (s : Spelling) (d : ℕ) (gs : List Level) (k : Kind) (u : List ℕ)
+pub strings_taken_on : (fault : Fault) (all : ℕ) (s : Spelling) (d : ℕ) (gs : List Remaining) (k : Kind) (u : List ℕ)
     (bs : List (List ℕ)) (j : ℕ) (rest : List ℕ) → AreStrings k u bs → AreTakenStrings s k u bs → AreWritable k bs
     → Inside fault all s d gs k j (u ++ rest) → Inside fault all s d gs k j rest
 strings_taken_on fault all Shortest d gs k u bs j rest are taken sound o = flat_on fault all d gs k taken j rest sound o

@@ -9,12 +9,12 @@ use Rattle.ciborium_ll_grammar.specs.Items.{IsTakenTitle}
 use Rattle.ciborium_ll_grammar.proofs.TitleLaws.{one_title}
 use Rattle.ciborium_ll_grammar.proofs.AffixLaws.{title_not_cut}
 use Rattle.ciborium_ll_grammar.proofs.AloneLaws.{title_some}
-use Rattle.cbor_checker_laws.proofs.Levels.{Level}
+use Rattle.cbor_nests.specs.declared.remaining.Remaining.{Remaining}
 use Rattle.cbor_checker.specs.declared.phase.Phase.TheVariants as p
 use Rattle.cbor_checker.specs.declared.phase.Fault.{Fault}
 use Rattle.cbor_checker.specs.declared.phase.Fault.TheVariants as f
 use Rattle.cbor_parser.specs.declared.strings.Within.{Within}
-use Rattle.cbor_checker.specs.Levels.{next}
+use Rattle.cbor_nests.specs.Remaining.{next}
 use Rattle.cbor_checker.specs.Spots.{Spot, settled, entered, text_due}
 use Rattle.cbor_checker.specs.Steps.{TitleStep, cut, early, whole, none}
 use Rattle.cbor_checker_laws.proofs.Runs.{Runs, faulted, fault_of, next_of, On, at}
@@ -24,7 +24,7 @@ use Rattle.cbor_checker_laws.proofs.Runs.{Runs, faulted, fault_of, next_of, On, 
 abbrev pub Faults : Fault → Spot → Type 0
 Faults fault spot = spot.phase ≡ p.Faulted fault
 
-settled_moved : (gs : List Level) (d a n : ℕ) (u : Spot)
+settled_moved : (gs : List Remaining) (d a n : ℕ) (u : Spot)
     → (settled d gs (record u { place = a; offset = n })).phase ≡ (settled d gs u).phase
 settled_moved [] d a n u = refl
 settled_moved (g ∷ gs) d a n u = let same = settled_moved gs (suc d) a n u in grind (arith, nat_tests)
@@ -40,14 +40,14 @@ entered_moved i x n u = grind (arith, nat_tests, settled_moved, text_moved)
 -- ---- a title
 
 -- The run goes on after a title, or a fault is known before its end, or the title is not taken.
-pub data Titled (fault : Fault) (s : Spelling) (i : Within) (d : ℕ) (gs : List Level) (a n : ℕ) (x : Header)
+pub data Titled (fault : Fault) (s : Spelling) (i : Within) (d : ℕ) (gs : List Remaining) (a n : ℕ) (x : Header)
     (title rest : List ℕ) : Type 0 where
   taken : IsTakenTitle s title x → Runs fault (entered i x (at s i d gs a n)) rest
       → Titled fault s i d gs a n x title rest
   known : (entered i x (at s i d gs a n)).phase ≡ p.Faulted fault → Titled fault s i d gs a n x title rest
   untaken : (IsTakenTitle s title x → ⊥) → fault ≡ f.Syntax a → Titled fault s i d gs a n x title rest
 
-module _ (fault : Fault) (s : Spelling) (i : Within) (d : ℕ) (gs : List Level) (a end : ℕ) (x : Header)
+module _ (fault : Fault) (s : Spelling) (i : Within) (d : ℕ) (gs : List Remaining) (a end : ℕ) (x : Header)
     (t rest : List ℕ)
     (q : IsTitle t x) where
   -- Some bytes of the title came.
@@ -86,7 +86,7 @@ module _ (fault : Fault) (s : Spelling) (i : Within) (d : ℕ) (gs : List Level)
       stepped c (cs ++ b ∷ []) m (n + 1) o.next e' counts' o.step o.runs (later m c (cs ++ b ∷ []) (n + 1) e' counts')
 
 -- A run over a title goes on, meets a fault before its end, or does not take it.
-pub title_run : (fault : Fault) (s : Spelling) (i : Within) (d : ℕ) (gs : List Level) (a n : ℕ) (x : Header)
+pub title_run : (fault : Fault) (s : Spelling) (i : Within) (d : ℕ) (gs : List Remaining) (a n : ℕ) (x : Header)
     (title rest : List ℕ) → IsTitle title x → Runs fault (at s i d gs a n) (title ++ rest)
     → Titled fault s i d gs n (n + length title) x title rest
 title_run fault s i d gs a n x [] rest q runs = absurd (let some = title_some [] x q in omega (arith, some))
@@ -97,7 +97,7 @@ title_run fault s i d gs a n x (b ∷ m) rest q runs =
     (later fault s i d gs n (n + length (b ∷ m)) x (b ∷ m) rest q m b [] (n + 1) refl counts)
 
 -- After a title that is taken, the run goes on.
-pub taken_run : (fault : Fault) (s : Spelling) (i : Within) (d : ℕ) (gs : List Level) (a n : ℕ) (x : Header)
+pub taken_run : (fault : Fault) (s : Spelling) (i : Within) (d : ℕ) (gs : List Remaining) (a n : ℕ) (x : Header)
     (title rest : List ℕ) → IsTitle title x → IsTakenTitle s title x → Runs fault (at s i d gs a n) (title ++ rest)
     → Runs fault (entered i x (at s i d gs n (n + length title))) rest
 taken_run fault s i d gs a n x title rest q g runs =
@@ -107,7 +107,7 @@ taken_run fault s i d gs a n x title rest q g runs =
       | untaken never is ↦ absurd (never g)
     ]
 
-pub taken_on : {fault : Fault} {all : ℕ} {s : Spelling} {i : Within} {d : ℕ} {gs : List Level} (x : Header)
+pub taken_on : {fault : Fault} {all : ℕ} {s : Spelling} {i : Within} {d : ℕ} {gs : List Remaining} (x : Header)
     (title rest : List ℕ) → IsTitle title x → IsTakenTitle s title x → On fault all (at s i d gs) (title ++ rest)
     → On fault all (λ a n. entered i x (at s i d gs a n)) rest
 taken_on {fault} {s = s} {i = i} {d = d} {gs = gs} x title rest q g o = record {

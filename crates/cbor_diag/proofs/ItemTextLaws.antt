@@ -16,7 +16,7 @@ use Rattle.ciborium_ll_decoder.proofs.DecodingLaws.{ReadsPast-none, ReadsPast-pu
 use Rattle.ciborium_ll_decoder.proofs.NestLaws.{alone_bytes}
 use Rattle.cbor_skip.specs.declared.SkipError.{SkipError}
 use Rattle.cbor_skip.specs.declared.SkipError.TheVariants as s
-use Rattle.cbor_skip.specs.declared.remaining.Remaining.{Remaining}
+use Rattle.cbor_skip.specs.Types.Remaining.{Remaining}
 use Rattle.cbor_skip.specs.Remaining.{IsRemaining, is_done, closes, is_value}
 use Rattle.cbor_diag.specs.declared.DiagError.{DiagError}
 use Rattle.cbor_diag.specs.declared.DiagError.TheVariants as d

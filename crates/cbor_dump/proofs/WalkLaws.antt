@@ -11,10 +11,10 @@ use Rattle.ciborium_ll.specs.Types.Header.TheVariants as h
 use Rattle.ciborium_ll.specs.Title.{IsTitle}
 use Rattle.ciborium_ll.specs.Items.{Completes, tag, array, pairs, open_array, open_pairs, AreItems, no_items, IsItem}
 use Rattle.ciborium_ll.specs.Items.{IsTakenTitle}
-use Rattle.cbor_skip.specs.declared.remaining.Remaining.{Remaining}
+use Rattle.cbor_skip.specs.Types.Remaining.{Remaining}
 use Rattle.cbor_skip.specs.Due.{TakesMore}
 use Rattle.cbor_skip.specs.Remaining.{IsRemaining, is_done, closes, is_value}
-use Rattle.cbor_skip.specs.declared.remaining.Remaining.TheVariants as r
+use Rattle.cbor_skip.specs.Types.Remaining.TheVariants as r
 use Rattle.cbor_skip.proofs.RemainingLaws.{takes_more}
 use Rattle.cbor_skip.proofs.ItemSteps.{item_of, items_item}
 use Rattle.cbor_skip.proofs.StrictnessLaws.{items_looser}

@@ -6,8 +6,8 @@ use Rattle.ciborium_ll.specs.Types.Header.{Header}
 use Rattle.ciborium_ll.specs.Types.Header.TheVariants as h
 use Rattle.ciborium_ll.specs.Items.{IsItem}
 use Rattle.ciborium_ll.specs.Limits.{MOST_LEVELS}
-use Rattle.cbor_skip.specs.declared.remaining.Remaining.{Remaining}
-use Rattle.cbor_skip.specs.declared.remaining.Remaining.TheVariants as r
+use Rattle.cbor_skip.specs.Types.Remaining.{Remaining}
+use Rattle.cbor_skip.specs.Types.Remaining.TheVariants as r
 use Rattle.cbor_skip.specs.Remaining.{IsRemaining, is_done}
 use Rattle.cbor_dump.specs.declared.walk.Walk.{Walk}
 use Rattle.cbor_dump.specs.declared.walk.Entered.{Entered}

@@ -25,7 +25,7 @@ use Rattle.ciborium_ll_decoder.proofs.NestLaws.{alone_bytes}
 use Rattle.ciborium_ll_decoder.proofs.DecodingLaws.{ReadsPast-none, ReadsPast-pull, ReadsPast-pulled, ReadsPast-then}
 use Rattle.cbor_skip.specs.declared.SkipError.{SkipError}
 use Rattle.cbor_skip.specs.declared.SkipError.TheVariants as s
-use Rattle.cbor_skip.specs.declared.remaining.Remaining.{Remaining}
+use Rattle.cbor_skip.specs.Types.Remaining.{Remaining}
 use Rattle.cbor_skip.specs.Due.{ItemDue, here, within, item_count, may_close}
 use Rattle.cbor_skip.specs.Remaining.{IsRemaining, is_done, closes}
 use Rattle.cbor_skip.specs.Skipping.{StopsDue, StopsTitle, StopsItem, ReadsItem, ReadsWithin, StopsWithin}

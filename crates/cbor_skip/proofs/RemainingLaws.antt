@@ -1,12 +1,10 @@
 -- The items that remain due within a nest tell whether one more may stand there, and whether a break may.
-use Rattle.std.proofs.Common.{◌≡◌, ℕ, suc, ◌*◌, ◌%◌, ◌==◌, true, false, None, arith}
+use Rattle.std.proofs.Common.{◌≡◌, ℕ, suc, ◌*◌, ◌%◌, ◌==◌, true, false, arith}
 use Rattle.std.proofs.Common.{add-one}
 use Rattle.std.proofs.Math.Nat.{mul-mod_right, mul-add-mod_self_left}
 use Rattle.ciborium_ll_grammar.specs.declared.hdr.Header.{Header}
-use Rattle.ciborium_ll_grammar.specs.declared.hdr.Header.TheVariants as h
 use Rattle.cbor_skip.specs.Due.{TakesMore, may_close}
-use Rattle.cbor_skip.specs.declared.remaining.Remaining.{Remaining}
-use Rattle.cbor_skip.specs.declared.remaining.Remaining.TheVariants as r
+use Rattle.cbor_skip.specs.Types.Remaining.{Remaining}
 use Rattle.cbor_skip.specs.Remaining.{IsRemaining, is_done, closes}
 
 -- Pairs are an even number of items.
@@ -21,9 +19,3 @@ odd_pairs n = rw (← add-one (2 * n), mul-add-mod_self_left 2 n 1)
 pub takes_more : (x : Header) (count : ℕ) (remaining : Remaining) → IsRemaining x count remaining
     → is_done remaining ≡ false → TakesMore x count × (may_close x count ≡ closes remaining)
 takes_more x count remaining is some = grind (arith, even_pairs, odd_pairs)
-
--- After the value of a pair, pairs are due.
-pub value_done : (x : Header) (count : ℕ) (remaining : Remaining) → remaining ≡ r.OpenValue
-    → IsRemaining x count remaining → IsRemaining x (suc count) r.OpenPairs
-value_done (h.Map None) count r.OpenValue e is = (suc is.0, let f = is.1 in omega (arith, f))
-value_done x count remaining e is = absurd (grind arith)

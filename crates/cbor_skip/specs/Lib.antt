@@ -1,7 +1,8 @@
 pub mod Due
 pub mod Failures
 pub mod ItemFaults
-pub mod Remaining
 pub mod Skipping
 pub mod SkippingTold
 pub mod SkipTexts
+pub mod Types
+pub use Rattle.cbor_nests.specs.Remaining

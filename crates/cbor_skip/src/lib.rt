@@ -20,10 +20,9 @@ ghost use Rattle.ciborium_ll_grammar.specs.declared.limits.TheConstants.{LEAST_B
 mod after;
 pub mod laws;
 mod messages;
-mod remaining;
 
 pub use self::after::skip_after;
-pub use self::remaining::Remaining;
+pub use cbor_nests::Remaining;
 use ciborium_ll_decoder::dec::{Decoder, Error};
 use ciborium_ll_decoder::skip::{skip_bytes, skip_text};
 use ciborium_ll_decoder::title::pull_title;

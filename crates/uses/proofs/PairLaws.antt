@@ -12,8 +12,8 @@ use Rattle.ciborium_ll.proofs.Lists.{length_zero}
 use Rattle.ciborium_ll.proofs.NestLaws.{alone_bytes}
 use Rattle.cbor_skip.specs.declared.SkipError.{SkipError}
 use Rattle.cbor_skip.specs.declared.SkipError.TheVariants as s
-use Rattle.cbor_skip.specs.declared.remaining.Remaining.{Remaining}
-use Rattle.cbor_skip.specs.declared.remaining.Remaining.TheVariants as r
+use Rattle.cbor_skip.specs.Types.Remaining.{Remaining}
+use Rattle.cbor_skip.specs.Types.Remaining.TheVariants as r
 use Rattle.cbor_skip.specs.Due.{ItemDue, here, within}
 use Rattle.cbor_skip.specs.Remaining.{IsRemaining, closes, is_done}
 use Rattle.cbor_skip.specs.Skipping.{StopsDue, StopsItem, StopsWithin, SkipsWithin, ReadsWithin, allowed_by}

@@ -4,14 +4,15 @@ ghost use Rattle.std.specs.Prelude.{◌≡◌, ◌+◌, ◌<◌, ◌≤◌, IfSo
 ghost use Rattle.cbor_checker.specs.Plain.{IsNestTitle, counted_behind};
 
 use super::Walk;
-use crate::level::Level;
+use crate::level::{items_left, lowered};
 use crate::plain::plain_run;
+use cbor_nests::Remaining;
 
 /// A nest whose items are counted, with an item due in it.
 #[derive(Drop)]
 struct Nest {
     /// The rest of the nest after that item.
-    level: Level,
+    level: Remaining,
     /// How many items the rest has.
     left: usize,
 }
@@ -28,14 +29,14 @@ fn nest_of(first: u8) -> Option<Nest>
         0x84..=0x97 => {
             let count = usize::from(first - 0x80);
             Some(Nest {
-                level: Level::Items(count - 1),
+                level: Remaining::Items(count - 1),
                 left: count - 1,
             })
         }
         0xa2..=0xb7 => {
             let count = usize::from(first - 0xa0);
             Some(Nest {
-                level: Level::Value(count - 1),
+                level: Remaining::Value(count - 1),
                 left: 2 * count - 1,
             })
         }
@@ -68,13 +69,13 @@ impl Walk<'_> {
         let Some(level) = self.levels.innermost() else {
             return (0, true);
         };
-        let Some(left) = level.left() else {
+        let Some(left) = items_left(level) else {
             return (0, true);
         };
         let run = plain_run(bytes, left + 1, self.spelling, self.offset, &mut self.place);
         self.offset += run.len;
         if run.left > 0 {
-            self.levels.replace(level.lowered(run.left - 1));
+            self.levels.replace(lowered(level, run.left - 1));
             return (run.len, true);
         }
         self.levels.pop();
@@ -117,7 +118,7 @@ impl Walk<'_> {
         self.offset += run.len;
         if run.left > 0 {
             self.depth -= 1;
-            self.levels.push(nest.level.lowered(run.left - 1));
+            self.levels.push(lowered(nest.level, run.left - 1));
             return (1 + run.len, true);
         }
         (1 + run.len, self.item_over())

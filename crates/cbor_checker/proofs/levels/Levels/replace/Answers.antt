@@ -7,12 +7,12 @@ use Rattle.cbor_checker.proofs.levels.Levels.replace.Goals as goal
 pub invariant_of-self-clause-known : goal.invariant_of-self-clause-known
 invariant_of-self-clause-known c =
     is_some _ _ (levels_put c.args.self.now.len _ _ _ _ _ c.args.level _ (omega (arith, c.requires)) (search rules)
-    (search rules) c.numbers-kind.ensures (some_levels _ c.args.self.now.known))
+    (search rules) c.numbers_of-kind.ensures (some_levels _ c.args.self.now.known))
 
 pub returns-clause-put : goal.returns-clause-put
 returns-clause-put c =
     ap levels_of (levels_put c.args.self.now.len _ _ _ _ _ c.args.level _ (omega (arith, c.requires)) (search rules)
-    (search rules) c.numbers-kind.ensures (some_levels _ c.args.self.now.known))
+    (search rules) c.numbers_of-kind.ensures (some_levels _ c.args.self.now.known))
 
 pub invariant_of-self-clause-kinds_long : goal.invariant_of-self-clause-kinds_long
 invariant_of-self-clause-kinds_long c = length-set c.args.self.now.kinds.now _ _ ∙ c.args.self.now.kinds_long

@@ -1,6 +1,6 @@
 use Rattle.std.proofs.Common.{◌≡◌, ◌+◌, ◌-◌, ◌≤◌, List, ◌∷◌, length, sym, ap, subst, take, ◌∙◌, arith}
 use Rattle.ciborium_ll_text.proofs.Lists.{rest_long}
-use Rattle.cbor_checker.specs.declared.level.Level.{Level}
+use Rattle.cbor_nests.specs.declared.remaining.Remaining.{Remaining}
 use Rattle.cbor_checker.specs.Plain.{lowered}
 use Rattle.cbor_checker.specs.Spots.{Spot}
 use Rattle.cbor_checker.specs.Steps.{Leads}
@@ -16,8 +16,8 @@ returns-then-run-gt0-clause-leads c =
     let place = c.plain_run-run.new.place in
     let within : run.len ≤ length xs - 1 = omega (arith, rest_long xs 1, c.plain_run-run.ensures.within) in
     let levels : levels_at c.push.new.self ≡ lowered (run.left - 1) c.args.nest.level ∷ s.levels =
-    c.push.ensures.pushed ∙ ap (λ (z : Level). z ∷ s.levels) c.lowered.ensures in
-    subst (λ (z : List Level). Leads s (take (1 + run.len) xs)
+    c.push.ensures.pushed ∙ ap (λ (z : Remaining). z ∷ s.levels) c.lowered.ensures in
+    subst (λ (z : List Remaining). Leads s (take (1 + run.len) xs)
     (record s { depth = s.depth - 1; levels = z; place = place; offset = s.offset + 1 + run.len })) (sym levels)
     (nest_goes s _ _ place run.len xs c.requires.phase c.requires.fresh c.requires.due c.requires.deep within
     c.requires.enters c.requires.left c.requires.some run.left c.if-run-gt0.true c.plain_run-run.ensures.most

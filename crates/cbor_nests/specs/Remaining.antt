@@ -1,9 +1,39 @@
--- The items that are still due within a tag, an array or a map, as the loop over its items counts them.
-use Rattle.std.specs.Prelude.{◌≡◌, ℕ, zero, ◌+◌, ◌*◌, Bool, true, false, Some, None}
+-- The items that are still due within a tag, an array or a map.
+use Rattle.std.specs.Prelude.{◌≡◌, ℕ, zero, suc, ◌+◌, ◌*◌, Bool, true, false, Option, Some, None}
 use Rattle.ciborium_ll_grammar.specs.declared.hdr.Header.{Header}
 use Rattle.ciborium_ll_grammar.specs.declared.hdr.Header.TheVariants as h
-use Rattle.cbor_skip.specs.declared.remaining.Remaining.{Remaining}
-use Rattle.cbor_skip.specs.declared.remaining.Remaining.TheVariants as r
+use Rattle.cbor_nests.specs.declared.remaining.Remaining.{Remaining}
+use Rattle.cbor_nests.specs.declared.remaining.Remaining.TheVariants as r
+
+-- A nest: a header that items follow, one level deeper. It is that of a tag (RFC 7049, 2.4), an array or a map (2.1,
+-- 2.2.1). The titles `c1`, `82` and `bf` begin nests, and `61` begins none.
+abbrev pub IsNest : Header → Type 0
+IsNest (h.Tag number) = Unit {0}
+IsNest (h.Array len) = Unit {0}
+IsNest (h.Map len) = Unit {0}
+IsNest header = ⊥
+
+-- The contents of a nest, by its header: one item, a counted number of items or pairs, or any number up to a break.
+-- `82` has two items, `a2` two pairs, and `c1` one item (RFC 7049, 2.1, 2.2.1 and 2.4).
+abbrev pub contents : Header → Remaining
+contents (h.Tag number) = r.Items 1
+contents (h.Array (Some count)) = r.Items count
+contents (h.Array None) = r.OpenItems
+contents (h.Map (Some count)) = r.Pairs count
+contents (h.Map None) = r.OpenPairs
+contents header = r.Items 0
+
+-- The rest of a nest after one more item, if an item is due: two items leave one, and the pair of `a1` leaves its
+-- value. With 0 items, as in `80`, none is due.
+abbrev pub next : Remaining → Option Remaining
+next (r.Items zero) = None
+next (r.Items (suc count)) = Some (r.Items count)
+next (r.Pairs zero) = None
+next (r.Pairs (suc count)) = Some (r.Value count)
+next (r.Value count) = Some (r.Pairs count)
+next r.OpenItems = Some r.OpenItems
+next r.OpenPairs = Some r.OpenValue
+next r.OpenValue = Some r.OpenPairs
 
 -- After the header and `count` items these items remain. A tag has one item, an array as many as it counts, and a map
 -- two for each pair (RFC 7049, 2.1 and 2.4). A break ends any number of items, and in a map an even number (2.2.1).

@@ -2,8 +2,7 @@
 
 ghost use Rattle.std.specs.Prelude.{◌≡◌, ℕ, suc, false};
 ghost use Rattle.ciborium_ll_grammar.specs.declared.hdr.Header.{Header as AnyHeader};
-ghost use Rattle.cbor_skip.specs.Due.{IsNest};
-ghost use Rattle.cbor_skip.specs.Remaining.{IsRemaining, closes, is_done, is_value};
+ghost use Rattle.cbor_nests.specs.Remaining.{IsNest, IsRemaining, closes, contents, is_done, is_value, next};
 
 use ciborium_ll_grammar::hdr::Header;
 
@@ -26,18 +25,27 @@ pub enum Remaining {
 }
 
 impl Remaining {
+    /// Returns the items that a header announces: no items, if it is not that of a tag, an array or a map.
+    #[inline(always)]
+    pub fn contents_of(header: Header) -> Remaining
+        ensures { result ≡ contents header }
+    {
+        match header {
+            Header::Tag(_) => Remaining::Items(1),
+            Header::Array(Some(count)) => Remaining::Items(count),
+            Header::Array(None) => Remaining::OpenItems,
+            Header::Map(Some(count)) => Remaining::Pairs(count),
+            Header::Map(None) => Remaining::OpenPairs,
+            _ => Remaining::Items(0),
+        }
+    }
+
     /// Returns the items that a header of a tag, array or map announces.
     pub fn behind(header: Header) -> Remaining
         requires { IsNest header }
         ensures { IsRemaining header 0 result }
     {
-        match header {
-            Header::Array(Some(count)) => Remaining::Items(count),
-            Header::Array(None) => Remaining::OpenItems,
-            Header::Map(Some(count)) => Remaining::Pairs(count),
-            Header::Map(None) => Remaining::OpenPairs,
-            _ => Remaining::Items(1),
-        }
+        Remaining::contents_of(header)
     }
 
     /// Returns whether nothing is due.
@@ -61,19 +69,31 @@ impl Remaining {
         matches!(self, Remaining::Value(_) | Remaining::OpenValue)
     }
 
+    /// Returns the items that are due after the next item, or `None` if nothing is due.
+    #[inline(always)]
+    pub fn next(self) -> Option<Remaining>
+        ensures { result ≡ next self }
+    {
+        match self {
+            Remaining::Items(0) | Remaining::Pairs(0) => None,
+            Remaining::Items(count) => Some(Remaining::Items(count - 1)),
+            Remaining::Pairs(count) => Some(Remaining::Value(count - 1)),
+            Remaining::Value(count) => Some(Remaining::Pairs(count)),
+            Remaining::OpenItems => Some(Remaining::OpenItems),
+            Remaining::OpenPairs => Some(Remaining::OpenValue),
+            Remaining::OpenValue => Some(Remaining::OpenPairs),
+        }
+    }
+
     /// Returns the items that are due after the next item.
     pub fn after_item(self) -> Remaining
         requires { is_done self ≡ false }
         ensures { (header : AnyHeader) (count : ℕ) → IsRemaining header count self
             → IsRemaining header (suc count) result }
     {
-        match self {
-            Remaining::Items(count) => Remaining::Items(count - 1),
-            Remaining::Pairs(count) => Remaining::Value(count - 1),
-            Remaining::Value(count) => Remaining::Pairs(count),
-            Remaining::OpenItems => Remaining::OpenItems,
-            Remaining::OpenPairs => Remaining::OpenValue,
-            Remaining::OpenValue => Remaining::OpenPairs,
-        }
+        let Some(after) = self.next() else {
+            unreachable!();
+        };
+        after
     }
 }
