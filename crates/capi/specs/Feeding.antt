@@ -14,19 +14,18 @@ use Rattle.capi.specs.declared.answer.CllAnswer.{CllAnswer}
 use Rattle.capi.specs.declared.answer.CllAnswer.TheVariants as a
 use Rattle.capi.specs.declared.answer.CllReport.{CllReport}
 use Rattle.capi.specs.declared.checker.CllChecker.{CllChecker}
-use Rattle.capi.specs.declared.checker.TheConstants.{MARK}
 use Rattle.capi.specs.Answers.{Reports}
 
 -- This memory holds a checker of an item to the depth, which has read exactly these bytes. For `Shortest` the item is
 -- one in its shortest spelling. The mark is "ciborium" in ASCII. After `cll_checker_feed` took `82 01`, it holds a
 -- checker that has read `82 01`.
 pub record IsKept (allowed : Spelling) (depth : ℕ) (read : List ℕ) (checker : CllChecker) : Type 0 where
-  pub mark : checker.mark ≡ MARK
+  pub mark : checker.mark ≡ 7163364913109890413
   pub state : Keeps allowed depth read checker.state
 
 -- This memory holds a checker, even if no bytes lead to its state. With the mark 0 it does not.
 pub record IsChecker (checker : CllChecker) : Type 0 where
-  pub mark : checker.mark ≡ MARK
+  pub mark : checker.mark ≡ 7163364913109890413
   pub state : HoldsSome checker.state
 
 -- This memory holds no checker. Memory with the mark 0 holds none.

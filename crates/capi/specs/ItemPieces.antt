@@ -16,7 +16,6 @@ use Rattle.capi.specs.declared.answer.CllAnswer.{CllAnswer}
 use Rattle.capi.specs.declared.answer.CllAnswer.TheVariants as a
 use Rattle.capi.specs.declared.answer.CllReport.{CllReport}
 use Rattle.capi.specs.declared.item_copier.CllItemCopier.{CllItemCopier}
-use Rattle.capi.specs.declared.item_copier.TheConstants.{MARK}
 use Rattle.capi.specs.Answers.{Reports}
 use Rattle.capi.specs.Feeding.{fault_answer, fault_place}
 
@@ -25,12 +24,12 @@ use Rattle.capi.specs.Feeding.{fault_answer, fault_place}
 -- with room for it, it holds a copier that has read and written `82 01`.
 pub record IsItemCopyKept (allowed : Spelling) (depth : ℕ) (read written : List ℕ) (copier : CllItemCopier) : Type 0
   where
-    pub mark : copier.mark ≡ MARK
+    pub mark : copier.mark ≡ 8029466375530767725
     pub state : Keeps allowed depth read written copier.state
 
 -- This memory holds a copier of an item, even if no bytes lead to its state. With the mark 0 it does not.
 pub record IsItemCopier (copier : CllItemCopier) : Type 0 where
-  pub mark : copier.mark ≡ MARK
+  pub mark : copier.mark ≡ 8029466375530767725
   pub state : HoldsSome copier.state
 
 -- This memory holds no copier of an item. Memory with the mark 0 holds none.

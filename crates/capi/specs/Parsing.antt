@@ -17,7 +17,6 @@ use Rattle.capi.specs.declared.answer.CllAnswer.TheVariants as a
 use Rattle.capi.specs.declared.answer.CllReport.{CllReport}
 use Rattle.capi.specs.declared.header.CllHeader.{CllHeader}
 use Rattle.capi.specs.declared.parser.CllEvent.{CllEvent}
-use Rattle.capi.specs.declared.parser.TheConstants.{MARK}
 use Rattle.capi.specs.declared.parser.CllParser.{CllParser}
 use Rattle.capi.specs.Answers.{Reports, code}
 use Rattle.capi.specs.Headers.{Says}
@@ -26,12 +25,12 @@ use Rattle.capi.specs.Headers.{Says}
 -- `Shortest` it takes that spelling alone. The mark is "headings" in ASCII. After `cll_parser_push` took `82` and then
 -- `19`, it holds one with `82 19` and the token `Array(Some(2))`.
 pub record IsParseKept (allowed : Spelling) (bytes : List ℕ) (tokens : List Token) (parser : CllParser) : Type 0 where
-  pub mark : parser.mark ≡ MARK
+  pub mark : parser.mark ≡ 7522525836485748595
   pub state : Keeps allowed bytes tokens parser.state
 
 -- This memory holds this parser. After `82 19` its point is a title that has begun with `19`.
 pub record HoldsParser (memory : CllParser) (parser : Parser) : Type 0 where
-  pub mark : memory.mark ≡ MARK
+  pub mark : memory.mark ≡ 7522525836485748595
   pub state : Holds memory.state parser
 
 -- This memory holds a parser, even if no bytes lead to its state. With the mark 0 it does not.

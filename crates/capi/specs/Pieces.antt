@@ -13,19 +13,18 @@ use Rattle.capi.specs.declared.answer.CllAnswer.{CllAnswer}
 use Rattle.capi.specs.declared.answer.CllAnswer.TheVariants as a
 use Rattle.capi.specs.declared.answer.CllReport.{CllReport}
 use Rattle.capi.specs.declared.copier.CllCopier.{CllCopier}
-use Rattle.capi.specs.declared.copier.TheConstants.{MARK}
 use Rattle.capi.specs.Answers.{Reports}
 
 -- This memory holds a copier of `count` elements, for `Shortest` in their shortest spelling, which has read and written
 -- exactly these bytes. The mark is "elements" in ASCII. After `cll_copier_feed` took `18 01` in a room of 1, it holds
 -- one for any spelling that has read `18 01` and written `01`.
 pub record IsCopyKept (allowed : Spelling) (count : ℕ) (read written : List ℕ) (copier : CllCopier) : Type 0 where
-  pub mark : copier.mark ≡ MARK
+  pub mark : copier.mark ≡ 7308327815843050611
   pub state : Keeps allowed count read written copier.state
 
 -- This memory holds a copier, even if no bytes lead to its state. With the mark 0 it does not.
 pub record IsCopier (copier : CllCopier) : Type 0 where
-  pub mark : copier.mark ≡ MARK
+  pub mark : copier.mark ≡ 7308327815843050611
   pub state : HoldsSome copier.state
 
 -- This memory holds no copier. Memory with the mark 0 holds none.
