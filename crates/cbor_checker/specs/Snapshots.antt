@@ -3,8 +3,6 @@ use Rattle.std.specs.Prelude.{◌≡◌, ◌==◌, ◌+◌, ◌≤◌, ◌%◌, 
 use Rattle.std.specs.Prelude.{None}
 use Rattle.std.specs.Prelude.{if◌then◌else◌, slice_index, take}
 use Rattle.ciborium_ll_grammar.specs.Title.{affix_len}
-use Rattle.ciborium_ll_grammar.specs.declared.spelling.Spelling.{Spelling}
-use Rattle.ciborium_ll_grammar.specs.declared.spelling.Spelling.TheVariants.{Any, Shortest}
 use Rattle.ciborium_ll_text.specs.declared.state.State.{State}
 use Rattle.ciborium_ll_text.specs.Numbers.{state_in}
 use Rattle.cbor_nests.specs.declared.remaining.Remaining.{Remaining}
@@ -14,6 +12,7 @@ use Rattle.cbor_checker.specs.declared.phase.Phase.TheVariants as p
 use Rattle.cbor_checker.specs.declared.phase.Fault.TheVariants as f
 use Rattle.cbor_parser.specs.declared.strings.Within.{Within}
 use Rattle.cbor_checker.specs.declared.snapshot.Snapshot.{Snapshot}
+use Rattle.cbor_parser.specs.Saving.{spelling_in}
 use Rattle.cbor_parser.specs.Strings.{open_count, within_in}
 use Rattle.cbor_checker.specs.Spots.{Spot}
 use Rattle.cbor_checker.specs.Telling.{has_left}
@@ -34,10 +33,6 @@ phase_in kind number text =
     (if kind == 5 then Some (p.Faulted (f.Syntax number)) else
     (if kind == 6 then Some (p.Faulted (f.Break number)) else
     (if kind == 7 then Some (p.Faulted (f.Deep number)) else None))))))
-
--- The spelling that is taken, by a number: 0 is any, 1 is the shortest alone, and 2 is neither.
-abbrev pub spelling_in : ℕ → Option Spelling
-spelling_in number = if number == 0 then Some Any else (if number == 1 then Some Shortest else None)
 
 -- The rest of a nest after the item that is due in it, by the number of its kind and a count. Kind 1 with the count 2
 -- is two pairs.

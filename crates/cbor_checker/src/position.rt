@@ -11,9 +11,10 @@ ghost use Rattle.ciborium_ll_grammar.specs.declared.limits.TheConstants.{MOST_LE
 use crate::levels::{Levels, are_levels};
 use crate::phase::Phase;
 use crate::progress::{Feed, Progress};
-use crate::snapshot::{Snapshot, is_state, spelling_of};
+use crate::snapshot::{Snapshot, is_state};
 use crate::tell::answer;
 use crate::walk::Walk;
+use cbor_parser::spelling_of;
 use cbor_parser::strings::Within;
 use ciborium_ll_grammar::few::Few;
 use ciborium_ll_grammar::limits::MOST_LEVELS;

@@ -3,7 +3,7 @@
 ghost use Rattle.ciborium_ll_grammar.specs.declared.spelling.Spelling.{Spelling};
 ghost use Rattle.std.specs.Prelude.{◌≡◌, ◌<◌, ◌≤◌, length, true, false, IfNone, IfSome, IsSome, IsSomeAnd};
 ghost use Rattle.std.specs.Option.{option_map};
-ghost use Rattle.cbor_checker.specs.Snapshots.{IsState, spelling_in};
+ghost use Rattle.cbor_checker.specs.Snapshots.{IsState};
 ghost use Rattle.cbor_checker.specs.Telling.{has_left};
 
 use crate::phase::Phase;
@@ -129,17 +129,6 @@ fn has_left(phase: Phase) -> bool
     match phase {
         Phase::Bytes(left) | Phase::Text(left, _) => left > 0,
         _ => true,
-    }
-}
-
-/// Returns which spellings the checker takes: 0 is any, and 1 is the shortest only.
-pub(crate) fn spelling_of(number: u8) -> Option<Spelling>
-    ensures { result ≡ spelling_in number }
-{
-    match number {
-        0 => Some(Spelling::Any),
-        1 => Some(Spelling::Shortest),
-        _ => None,
     }
 }
 
