@@ -106,6 +106,13 @@ module _ {R E : Type 0} (source : Ghosts R E) where
 
   -- ---- the whole
 
+  -- The read of an item in whose place no break may stand is the read of one item.
+  pub as_item : (depth room : ℕ) (old new : Decoder R) (result : Result (Unit {0}) (SkipError E))
+      → MatchResult result (λ done. ReadsItem source depth old new)
+      (λ error. StopsItem source false depth room old error new) → SkipsItem source depth room old result new
+  as_item depth room old new (Ok done) reads = reads
+  as_item depth room old new (Err error) stops = stops
+
   pub one_item : (d room : ℕ) (old : Decoder R) (result : Result (Unit {0}) (SkipError E)) (new : Decoder R)
       → SkipsCounted source 1 d room old result new → SkipsItem source d room old result new
   one_item d room old (Ok done) new reads =

@@ -1,14 +1,15 @@
 //! The rest of an item whose header was read.
 
-ghost use Rattle.std.specs.Prelude.{◌≡◌, ◌≤◌, MatchResult, None, IfOk, length};
+ghost use Rattle.std.specs.Prelude.{◌≡◌, ◌≤◌, Bool, IfOk, MatchResult, None, false, length};
 ghost use Rattle.ciborium_ll_grammar.specs.declared.hdr.Header.{Header as AnyHeader};
+ghost use Rattle.ciborium_ll_grammar.specs.declared.hdr.Header.TheVariants.{Break as BreakHeader};
 ghost use Rattle.ciborium_ll_grammar.specs.declared.limits.TheConstants.{LEAST_BUFFER, MOST_LEVELS};
 ghost use Rattle.ciborium_ll_grammar.specs.Title.{title_len};
 ghost use Rattle.ciborium_ll_decoder.specs.declared.dec.Decoder.{Decoder as AnyDecoder};
 ghost use Rattle.ciborium_ll_decoder.specs.Decoding.{MovesOn, PullsTitle, offset_of, waiting_of};
 ghost use Rattle.cbor_skip.specs.declared.Begun.TheVariants.{Break as BegunBreak, Nest as BegunNest};
 ghost use Rattle.cbor_skip.specs.Due.{IsNest};
-ghost use Rattle.cbor_skip.specs.Skipping.{IsBegun, SkipsItem, StopsTitle};
+ghost use Rattle.cbor_skip.specs.Skipping.{IsBegun, ReadsItem, SkipsItem, StopsItem, StopsTitle};
 
 use crate::{Begun, SkipError, nest_begun, skip_rest};
 use ciborium_ll_decoder::dec::{Decoder, Error};
@@ -30,6 +31,7 @@ fn begin_after<R: Read>(
         → MatchResult result (λ begun. IsBegun R.Read begun before decoder.new)
         (λ error. StopsTitle R.Read (length buffer.old) before error decoder.new) }
     ensures nest { IfOk result (λ begun. (nest : AnyHeader) → begun ≡ BegunNest nest → IsNest nest) }
+    ensures breaks { IfOk result (λ begun. begun ≡ BegunBreak → header ≡ BreakHeader) }
     ensures moves_on { MovesOn R.Read decoder.old decoder.new }
 {
     match header {
@@ -52,7 +54,8 @@ fn begin_after<R: Read>(
 /// Skips the rest of an item after its header, which [`Decoder::pull`] gave: `01 02` after the header of `82`.
 ///
 /// `place` is the offset of the header's title. The depth counts the nest that the header begins. Both together, the
-/// `pull` and this call, answer as [`skip_item`](crate::skip_item) does.
+/// `pull` and this call, answer as [`skip_item`](crate::skip_item) does. Within an array or a map of indefinite length
+/// they do so too, if the header is no break that ends it.
 ///
 /// # Errors
 ///
@@ -73,6 +76,10 @@ pub fn skip_after<R: Read>(
     ensures skipped { (before : AnyDecoder R) → PullsTitle R.Read before header decoder.old
         → MovesOn R.Read before decoder.old → place ≡ offset_of before
         → SkipsItem R.Read depth (length buffer.old) before result decoder.new }
+    ensures within { (closable : Bool) (before : AnyDecoder R) → PullsTitle R.Read before header decoder.old
+        → MovesOn R.Read before decoder.old → place ≡ offset_of before → (header ≡ BreakHeader → closable ≡ false)
+        → MatchResult result (λ done. ReadsItem R.Read depth before decoder.new)
+        (λ error. StopsItem R.Read closable depth (length buffer.old) before error decoder.new) }
     ensures moves_on { MovesOn R.Read decoder.old decoder.new }
 {
     let begun = begin_after(decoder, header, buffer)?;
