@@ -1,21 +1,24 @@
 -- Bytes that were read ahead and passed, and items in a row.
-use Rattle.std.proofs.Common.{◌≡◌, ℕ, suc, ◌+◌, ◌-◌, ◌<◌, ◌≤◌, ◌↔◌, Bool, false, List, [], ◌++◌, length, take, drop}
-use Rattle.std.proofs.Common.{Option, Some, None, IfSome, IsSome, IsTrue, Result, Ok, Err}
-use Rattle.std.proofs.Common.{refl, sym, ap, ◌∙◌, arith, inr}
+use Rattle.std.proofs.Common.{◌≡◌, ℕ, suc, ◌+◌, ◌-◌, ◌*◌, ◌/◌, ◌%◌, ◌<◌, ◌≤◌, ◌↔◌, ◌==◌, Bool, true, false, List, [], ◌∷◌}
+use Rattle.std.proofs.Common.{◌++◌, length, take, drop, Option, Some, None, IfSome, IsSome, IsTrue, MatchResult, Result}
+use Rattle.std.proofs.Common.{Ok, Err, refl, sym, ap, subst, ◌∙◌, arith, inr}
+use Rattle.std.proofs.lemmas.Bool.Decides.{nat_tests}
 use Rattle.std.proofs.lemmas.List.{take-append-drop, take-append-le}
 use Rattle.std.specs.Io.KnownBytes.{Consumes}
 use Rattle.ciborium_ll_io.specs.declared.io.Read.{Ghosts}
+use Rattle.ciborium_ll_grammar.specs.declared.spelling.Spelling.{Spelling}
 use Rattle.ciborium_ll_grammar.specs.declared.hdr.Header.{Header}
-use Rattle.ciborium_ll_grammar.specs.Items.{AreItems, no_items}
-use Rattle.ciborium_ll_grammar.proofs.ItemJoins.{items_joined}
+use Rattle.ciborium_ll_grammar.specs.declared.hdr.Header.TheVariants as h
+use Rattle.ciborium_ll_grammar.specs.Items.{AreItems, Completes, no_items, open_array, open_pairs}
+use Rattle.ciborium_ll_grammar.proofs.ItemJoins.{item_some, items_joined}
 use Rattle.ciborium_ll_decoder.specs.declared.dec.Decoder.{Decoder}
 use Rattle.ciborium_ll_decoder.specs.Decoding.{IsSteady, PullsTitle, ReadsPast, failures_of, spelling_of}
-use Rattle.cbor_skip.specs.Due.{item_count}
-use Rattle.ciborium_ll_decoder.proofs.DecodingLaws.{ReadsPast-none, ReadsPast-then}
+use Rattle.ciborium_ll_decoder.proofs.DecodingLaws.{ReadsPast-none, ReadsPast-pull, ReadsPast-then}
+use Rattle.ciborium_ll_decoder.proofs.NestLaws.{alone_bytes}
+use Rattle.cbor_skip.specs.Due.{IsNest, TakesMore, item_count, may_close}
 use Rattle.cbor_skip.specs.declared.SkipError.{SkipError}
-use Rattle.cbor_skip.specs.Skipping.{ReadsCounted, ReadsItem, SkipsCounted, SkipsItem, StopsCounted, allowed_by}
-use Rattle.cbor_skip.proofs.ItemRuns.{counted_within}
-use Rattle.cbor_skip.proofs.ItemSteps.{reads_nest, stops_nest}
+use Rattle.cbor_skip.specs.Skipping.{ReadsCounted, ReadsItem, ReadsWithin, SkipsItem, StopsCounted, StopsItem}
+use Rattle.cbor_skip.specs.Skipping.{StopsWithin, allowed_by}
 use Rattle.cbor_skip.proofs.StrictnessLaws.{items_looser, passed_keeps, strict_settled}
 
 -- A test that no header waits.
@@ -34,6 +37,22 @@ front_taken len room bytes less =
 -- Without a waiting header nothing is said of one.
 none_waited : (waiting : Option Header) (P : Header → Type 0) → waiting ≡ None → IfSome waiting P
 none_waited waiting P none = rw none tt
+
+-- A nest that counts no items takes any number.
+takes_any : (header : Header) (count : ℕ) → IsNest header → item_count header ≡ None → TakesMore header count
+takes_any header count nest none = grind arith
+
+-- An even number is twice its half.
+half : (count : ℕ) → (count % 2 == 0) ≡ true → 2 * (count / 2) ≡ count
+half count even = grind (arith, nat_tests)
+
+-- Items and a break complete a nest, if a break may stand after the items.
+open_completes : (s : Spelling) (header : Header) (depth count : ℕ) (items : List ℕ)
+    → may_close header count ≡ true → AreItems s depth count items → Completes s (suc depth) header (items ++ 0xff ∷ [])
+open_completes s (h.Array None) depth count items may are = open_array are
+open_completes s (h.Map None) depth count items may are =
+    open_pairs (count / 2) (subst (λ (n : ℕ). AreItems s depth n items) (sym (half count may)) are)
+open_completes s header depth count items may are = absurd cc
 
 module _ {R E : Type 0} (source : Ghosts R E) where
   -- ---- bytes
@@ -100,18 +119,35 @@ module _ {R E : Type 0} (source : Ghosts R E) where
     stops = stops;
   }
 
-  -- ---- one item
+  -- ---- a nest of indefinite length
 
-  -- The items after the title of a nest are the rest of one item.
-  pub nest_skip : (depth room count : ℕ) (old titled new : Decoder R) (header : Header) → 0 < depth
-      → item_count header ≡ Some count → PullsTitle source old header titled
-      → (IsSteady source old → IsSteady source titled) → (result : Result (Unit {0}) (SkipError E))
-      → SkipsCounted source count (depth - 1) room titled result new → SkipsItem source depth room old result new
-  nest_skip depth room count old titled new header some counted pulls steady (Ok done) reads =
-      let level : suc (depth - 1) ≡ depth = omega (arith, some) in
-      reads_nest source level pulls steady
-      (counted_within source header count (depth - 1) room titled counted (Ok done) new reads)
-  nest_skip depth room count old titled new header some counted pulls steady (Err error) stops =
-      let level : suc (depth - 1) ≡ depth = omega (arith, some) in
-      stops_nest source level pulls steady
-      (counted_within source header count (depth - 1) room titled counted (Err error) new stops)
+  -- The read of a nest that counts no items stops after some items.
+  pub stops_open : (depth room count : ℕ) (old now new : Decoder R) (header : Header) (error : SkipError E)
+      → IsNest header → item_count header ≡ None → ReadsCounted source count depth old now
+      → StopsItem source (may_close header count) depth room now error new
+      → StopsWithin source header depth room old error new
+  stops_open depth room count old now new header error nest none first stops = record {
+    count = count;
+    items = first.items;
+    takes_more = takes_any header count nest none;
+    are_items = first.are_items;
+    between = now;
+    passed = first.passed;
+    stops = stops;
+  }
+
+  -- A break after some items ends a nest that counts no items.
+  pub ends_open : (depth count : ℕ) (old now new : Decoder R) (header : Header)
+      → may_close header count ≡ true → ReadsCounted source count depth old now → PullsTitle source now h.Break new
+      → (IsSteady source now → IsSteady source new) → ReadsWithin source header depth old new
+  ends_open depth count old now new header may first title steady = record {
+    rest = first.items ++ 0xff ∷ [];
+    completes = open_completes (allowed_by old) header depth count first.items may first.are_items;
+    passed = rw (alone_bytes title.title h.Break title.is_title refl) at
+        (ReadsPast-pull source _ _ _ _ _ title first.passed steady);
+  }
+
+  -- The read of an item moves the decoder on.
+  pub item_rises : (depth : ℕ) (old new : Decoder R) → ReadsItem source depth old new → old.offset < new.offset
+  item_rises depth old new item =
+      omega (arith, item.passed.offset, item_some (allowed_by old) depth item.item item.is_item)
