@@ -1,5 +1,5 @@
 -- Items at the beginning of bytes, in groups.
-use Rattle.std.proofs.Common.{◌≡◌, ℕ, suc, ◌+◌, ◌-◌, ◌*◌, ◌≤◌, min, List, [], ◌∷◌, ◌++◌, length, take, drop, Some}
+use Rattle.std.proofs.Common.{◌≡◌, ℕ, suc, ◌+◌, ◌-◌, ◌*◌, ◌^◌, ◌<◌, ◌≤◌, min, List, [], ◌∷◌, ◌++◌, length, take, drop, Some}
 use Rattle.std.proofs.Common.{refl, sym, ap, subst, ◌∙◌, arith, append-nil, inl, inr}
 use Rattle.std.proofs.lemmas.List.{take_rest}
 use Rattle.std.proofs.Math.Seq.{take-add}
@@ -7,7 +7,7 @@ use Rattle.std.proofs.lemmas.Bool.{cases_lt}
 use Rattle.ciborium_ll_grammar.specs.declared.spelling.Spelling.{Spelling}
 use Rattle.ciborium_ll_grammar.specs.declared.hdr.Header.{Header}
 use Rattle.ciborium_ll_grammar.specs.declared.hdr.Header.TheVariants as h
-use Rattle.ciborium_ll_grammar.specs.Title.{IsTitle}
+use Rattle.ciborium_ll_grammar.specs.Title.{IsTitle, shortest_title}
 use Rattle.ciborium_ll_grammar.specs.Items.{AreItems, Completes, IsItem, array, byte_string, float, more_items, negative}
 use Rattle.ciborium_ll_grammar.specs.Items.{no_items, open_array, open_bytes, open_pairs, open_text, pairs, positive}
 use Rattle.ciborium_ll_grammar.specs.Items.{simple, tag, text_string}
@@ -53,22 +53,20 @@ within_array s d n t rest w p (more_items {title = t'} {rest = r} {others = o} {
     let all : r ≡ rest = sym (append-nil r) ∙ (ap (λ (z : List ℕ). r ++ z) (sym none) ∙ same.2) in
     subst (AreItems s d n) all (array_items s d n x r c same.1)
 
--- The shortest title of an array of 64 items.
-group_title : IsTitle (0x98 ∷ 0x40 ∷ []) (h.Array (Some 64))
-group_title = IsTitle-shortest (h.Array (Some 64)) (omega arith)
-
--- The bytes after the title of a group are its items. At the last of all levels the items have one level less.
-pub group_items : (s : Spelling) (d levels : ℕ) (w : List ℕ) → d ≤ 256 → levels ≡ min d 255 + 1
-    → IsItem s levels (0x98 ∷ 0x40 ∷ w) → AreItems s d 64 w
-group_items s d levels w shallow is item =
+-- The bytes after the shortest title of an array are its items. At the last of all levels they have one level less.
+pub group_items : (s : Spelling) (d levels n : ℕ) (w : List ℕ) → d ≤ 256 → levels ≡ min d 255 + 1 → n < 2 ^ 64
+    → IsItem s levels (shortest_title (h.Array (Some n)) ++ w) → AreItems s d n w
+group_items s d levels n w shallow is fits item =
+    let title = shortest_title (h.Array (Some n)) in
+    let sound : IsTitle title (h.Array (Some n)) = IsTitle-shortest (h.Array (Some n)) fits in
     elim (cases_lt d 256) [
       | inl less ↦
-          within_array s d 64 (0x98 ∷ 0x40 ∷ []) w (0x98 ∷ 0x40 ∷ w) group_title
-          (subst (λ (n : ℕ). IsItem s n (0x98 ∷ 0x40 ∷ w)) (omega (arith, is, less)) item) refl
+          within_array s d n title w (title ++ w) sound
+          (subst (λ (m : ℕ). IsItem s m (title ++ w)) (omega (arith, is, less)) item) refl
       | inr last ↦
-          subst (λ (n : ℕ). AreItems s n 64 w) (omega (arith, last, shallow)) (items_deeper s 255 64 w
-          (within_array s 255 64 (0x98 ∷ 0x40 ∷ []) w (0x98 ∷ 0x40 ∷ w) group_title
-          (subst (λ (n : ℕ). IsItem s n (0x98 ∷ 0x40 ∷ w)) (omega (arith, is, last)) item) refl))
+          subst (λ (m : ℕ). AreItems s m n w) (omega (arith, last, shallow)) (items_deeper s 255 n w
+          (within_array s 255 n title w (title ++ w) sound
+          (subst (λ (m : ℕ). IsItem s m (title ++ w)) (omega (arith, is, last)) item) refl))
     ]
 
 -- ---- items in a row

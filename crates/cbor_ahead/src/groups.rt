@@ -1,19 +1,23 @@
 //! Whole items at the beginning of bytes, by a checker.
 
-ghost use Rattle.std.specs.Prelude.{◌≡◌, ◌<◌, ◌≤◌, length, take};
-ghost use Rattle.ciborium_ll_grammar.specs.Items.{AreItems, IsItem};
+ghost use Rattle.std.specs.Prelude.{◌≡◌, ◌<◌, ◌≤◌, Some, length, take};
+ghost use Rattle.ciborium_ll_grammar.specs.declared.hdr.Header.TheVariants.{Array};
 ghost use Rattle.ciborium_ll_grammar.specs.declared.limits.TheConstants.{MOST_LEVELS};
-ghost use Rattle.cbor_ahead.specs.Groups.{group_size};
+ghost use Rattle.ciborium_ll_grammar.specs.Items.{AreItems};
+ghost use Rattle.ciborium_ll_grammar.specs.Title.{shortest_title};
 
 use cbor_checker::{Checker, Progress};
 use ciborium_ll_grammar::limits::MOST_LEVELS;
 use ciborium_ll_grammar::spelling::Spelling;
 
-/// How many items a group has.
-const GROUP: usize = 64;
+/// The shortest title of an array of 64 items.
+const MANY: [u8; 2] = [0x98, 0x40];
 
-/// The shortest title of an array of `GROUP` items.
-const GROUP_TITLE: [u8; 2] = [0x98, 0x40];
+/// The shortest title of an array of eight items.
+const FEW: [u8; 1] = [0x88];
+
+/// The shortest title of an array of one item.
+const ONE: [u8; 1] = [0x81];
 
 /// Whole items in a row.
 #[derive(Drop)]
@@ -24,34 +28,19 @@ pub(crate) struct Run {
     pub(crate) count: usize,
 }
 
-/// Returns the length of the item with which these bytes begin, or 0 if they begin with none. It is a function of its
-/// own, since a checker takes 2.4 KiB of the stack.
-#[inline(never)]
-fn item_len(bytes: &[u8], spelling: Spelling, depth: usize) -> usize
-    requires { depth ≤ MOST_LEVELS }
-    ensures within { result ≤ length bytes.now }
-    ensures item { 0 < result → IsItem spelling depth (take result bytes.now) }
-{
-    let mut checker = Checker::with_spelling(depth, spelling);
-    let fed = checker.feed(bytes);
-    match fed.progress {
-        Progress::Ended(_) => fed.taken,
-        Progress::More(_) | Progress::Fault(_) | Progress::TooLong => 0,
-    }
-}
-
-/// Returns the length of the `GROUP` items with which these bytes begin, or 0, which says nothing.
+/// Returns the length of the `size` items with which these bytes begin, or 0, which says nothing.
 ///
-/// A checker reads them as the items of one array, so that a checker is made only once. An item at the last of all
-/// levels has no level left in an array.
+/// A checker reads them as the items of one array, whose shortest title this is. So a checker is made once for them,
+/// which takes 2.4 KiB of the stack. An item at the last of all levels has no level left in an array.
 #[inline(never)]
-fn group_len(bytes: &[u8], spelling: Spelling, depth: usize) -> usize
-    requires { depth ≤ MOST_LEVELS }
+fn group_len(bytes: &[u8], title: &[u8], size: usize, spelling: Spelling, depth: usize) -> usize
+    requires shallow { depth ≤ MOST_LEVELS }
+    requires title { title.now ≡ shortest_title (Array (Some size)) }
     ensures within { result ≤ length bytes.now }
-    ensures items { 0 < result → AreItems spelling depth GROUP (take result bytes.now) }
+    ensures items { 0 < result → AreItems spelling depth size (take result bytes.now) }
 {
     let mut checker = Checker::with_spelling(depth.min(MOST_LEVELS - 1) + 1, spelling);
-    let begun = checker.feed(&GROUP_TITLE);
+    let begun = checker.feed(title);
     if !matches!(begun.progress, Progress::More(_)) {
         return 0;
     }
@@ -62,38 +51,25 @@ fn group_len(bytes: &[u8], spelling: Spelling, depth: usize) -> usize
     }
 }
 
-/// Returns how many items are taken at once.
-fn size_of(is_group: bool) -> usize
-    ensures { result ≡ group_size is_group }
-{
-    if is_group { GROUP } else { 1 }
-}
-
-/// Returns the length of one item or of a group, with which these bytes begin, or 0, which says nothing.
-fn len_of(bytes: &[u8], is_group: bool, spelling: Spelling, depth: usize) -> usize
-    requires { depth ≤ MOST_LEVELS }
-    ensures within { result ≤ length bytes.now }
-    ensures items { 0 < result → AreItems spelling depth (group_size is_group) (take result bytes.now) }
-{
-    if is_group {
-        group_len(bytes, spelling, depth)
-    } else {
-        item_len(bytes, spelling, depth)
-    }
-}
-
-/// Takes at most `most` items, one by one or in groups.
-fn run_of(bytes: &[u8], is_group: bool, most: usize, spelling: Spelling, depth: usize) -> Run
-    requires { depth ≤ MOST_LEVELS }
+/// Takes at most `most` whole items in groups of `size` items, as long as the bytes go on with a group.
+fn run_of(
+    bytes: &[u8],
+    title: &[u8],
+    size: usize,
+    most: usize,
+    spelling: Spelling,
+    depth: usize,
+) -> Run
+    requires shallow { depth ≤ MOST_LEVELS }
+    requires title { title.now ≡ shortest_title (Array (Some size)) }
     ensures within { result.len ≤ length bytes.now }
     ensures most { result.count ≤ most }
     ensures items { AreItems spelling depth result.count (take result.len bytes.now) }
 {
-    let size = size_of(is_group);
     let mut at = 0;
     let mut count = 0;
     'groups: while size <= most - count && at < bytes.len() {
-        let len = len_of(&bytes[at..], is_group, spelling, depth);
+        let len = group_len(&bytes[at..], title, size, spelling, depth);
         if len == 0 {
             return Run { len: at, count };
         }
@@ -103,23 +79,47 @@ fn run_of(bytes: &[u8], is_group: bool, most: usize, spelling: Spelling, depth: 
     Run { len: at, count }
 }
 
-/// Takes at most `most` whole items, as long as the bytes go on with one.
+/// Takes at most `most - run.count` more whole items after a run of items.
+fn more_items(
+    run: Run,
+    bytes: &[u8],
+    title: &[u8],
+    size: usize,
+    most: usize,
+    spelling: Spelling,
+    depth: usize,
+) -> Run
+    requires shallow { depth ≤ MOST_LEVELS }
+    requires title { title.now ≡ shortest_title (Array (Some size)) }
+    requires within { run.len ≤ length bytes.now }
+    requires most { run.count ≤ most }
+    requires items { AreItems spelling depth run.count (take run.len bytes.now) }
+    ensures within { result.len ≤ length bytes.now }
+    ensures most { result.count ≤ most }
+    ensures items { AreItems spelling depth result.count (take result.len bytes.now) }
+{
+    let more = run_of(
+        &bytes[run.len..],
+        title,
+        size,
+        most - run.count,
+        spelling,
+        depth,
+    );
+    Run {
+        len: run.len + more.len,
+        count: run.count + more.count,
+    }
+}
+
+/// Takes at most `most` whole items, as long as the bytes go on with one: 64 at a time, then eight, then one.
 pub(crate) fn whole_items(bytes: &[u8], most: usize, spelling: Spelling, depth: usize) -> Run
     requires { depth ≤ MOST_LEVELS }
     ensures within { result.len ≤ length bytes.now }
     ensures most { result.count ≤ most }
     ensures items { AreItems spelling depth result.count (take result.len bytes.now) }
 {
-    let groups = run_of(bytes, true, most, spelling, depth);
-    let singles = run_of(
-        &bytes[groups.len..],
-        false,
-        most - groups.count,
-        spelling,
-        depth,
-    );
-    Run {
-        len: groups.len + singles.len,
-        count: groups.count + singles.count,
-    }
+    let many = run_of(bytes, &MANY, 64, most, spelling, depth);
+    let few = more_items(many, bytes, &FEW, 8, most, spelling, depth);
+    more_items(few, bytes, &ONE, 1, most, spelling, depth)
 }
