@@ -51,11 +51,16 @@ pub fn check_one<R: Read>(
     }
     let place = decoder.offset();
     let pulled = decoder.pull();
-    alone(pulled, start, place, decoder.offset())
+    answer_end(pulled, start, place, decoder.offset())
 }
 
-/// Answers the pull after an item. The item stands from `start` to `place`, and the pull stopped at `stop`.
-fn alone<E>(
+/// Returns the answer of [`check_one`] after an item, by the pull after it. The item stands from `start` to `place`, and
+/// the pull stopped at `stop`.
+///
+/// # Errors
+///
+/// - `More(place, ..)`: the pull gave a header, or failed for another reason than the end.
+pub fn answer_end<E>(
     pulled: Result<Header, Error<E>>,
     start: usize,
     place: usize,

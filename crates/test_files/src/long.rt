@@ -11,7 +11,7 @@ const ITEM: &[u8] = b"\x82\x01aa";
 const COUNT: usize = 17000;
 
 // Words, the bytes before and after 17000 arrays of four bytes, and what `check` finds.
-static ROWS: [(&str, &[u8], &[u8], &str); 11] = [
+static ROWS: [(&str, &[u8], &[u8], &str); 19] = [
     // A sequence.
     ("check", b"", b"", "ok 17000 68000"),
     ("check", b"", b"\x1c", "syntax 68000"),
@@ -31,6 +31,15 @@ static ROWS: [(&str, &[u8], &[u8], &str); 11] = [
     ("check --depth 1", b"\x01\x9a\0\0\x42\x68", b"", "deep 6"),
     // The array in a map.
     ("check", b"\x01\xa1aa\x9a\0\0\x42\x68", b"", "ok 2 68009"),
+    // An array and a map of indefinite length. A break in place of a value does not end the map.
+    ("check", b"\x01\x9f", b"\xff", "ok 2 68003"),
+    ("check", b"\x01\xbf", b"\xff", "ok 2 68003"),
+    ("check", b"\x01\xbf\x01", b"\xff", "break 68003"),
+    ("check", b"\x01\xbf\x01", b"\x02\xff", "ok 2 68005"),
+    ("check", b"\x01\x9f\x9f", b"\xff\x1c", "syntax 68004"),
+    ("check --depth 1", b"\x01\x9f", b"\xff", "deep 2"),
+    ("check --one", b"\x9f", b"\xff", "ok 1 68002"),
+    ("check --one", b"\x9f", b"\xff\x01", "more 68002"),
 ];
 
 // Puts bytes into a list, or stops.

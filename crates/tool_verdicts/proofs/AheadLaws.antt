@@ -3,12 +3,21 @@ use Rattle.std.proofs.Common.{◌≡◌, ℕ, ◌≤◌, ◌↔◌, Bool, false,
 use Rattle.std.proofs.Common.{refl, ap, ◌∙◌, inl, inr, arith}
 use Rattle.ciborium_ll.specs.Types.Read.{Ghosts}
 use Rattle.ciborium_ll.specs.Types.Decoder.{Decoder}
+use Rattle.ciborium_ll.specs.Types.Error.{Error}
 use Rattle.ciborium_ll.specs.Types.Error.TheVariants as e
+use Rattle.ciborium_ll.specs.Types.Header.{Header}
+use Rattle.ciborium_ll.specs.Decoding.{DecoderPullAnswer}
 use Rattle.cbor_skip.specs.declared.SkipError.{SkipError}
 use Rattle.cbor_skip.specs.declared.SkipError.TheVariants as s
-use Rattle.cbor_skip.specs.Skipping.{ReadsCounted, SkipsItem}
+use Rattle.cbor_skip.specs.Skipping.{ReadsCounted, SkipsCounted, SkipsItem}
+use Rattle.cbor_skip.proofs.ItemRuns.{one_item}
+use Rattle.cbor_dump.specs.declared.sequence.Sequence.{Sequence}
+use Rattle.cbor_dump.specs.declared.single.NotOne.{NotOne}
+use Rattle.cbor_dump.specs.declared.single.NotOne.TheVariants as n
 use Rattle.cbor_dump.specs.Sequences.{IsEnd, ReadsItems}
-use Rattle.tool_verdicts.specs.Checking.{SaysItems}
+use Rattle.cbor_dump.specs.Singles.{EndsOne}
+use Rattle.cbor_dump.proofs.SingleLaws.{ends_one}
+use Rattle.tool_verdicts.specs.Checking.{SaysItems, SaysOne, fault_said, single_said}
 use Rattle.tool_verdicts.specs.Parts.{EndsAt, EndsSome, IsAtMost, IsBelow, SaysSome, enough, stops}
 use Rattle.tool_verdicts.proofs.PartLaws.{ends_same}
 use Rattle.tool_verdicts.specs.declared.verdict.Verdict.{Verdict}
@@ -44,6 +53,29 @@ module _ {R E : Type 0} (source : Ghosts R E) (depth room : ℕ) (old new : Deco
   -- The verdict on at most a number of items is that on all, if there is no limit.
   pub says_all : SaysSome source depth room None old verdict new → SaysItems source depth room old verdict new
   says_all some = all_ended some.count some.between some.reads some.ends
+
+module _ {R E : Type 0} (source : Ghosts R E) (depth room : ℕ) (old new : Decoder R) (verdict : Verdict) where
+  -- The verdict after one item, by the pull after it.
+  pub says_alone : (start place stop : ℕ) (between : Decoder R) (pulled : Result Header (Error E))
+      (answer : Result (Sequence E) (NotOne E)) → ReadsCounted source 1 depth old between
+      → DecoderPullAnswer source between pulled new → EndsOne pulled start place stop answer → start ≡ old.offset
+      → place ≡ between.offset → stop ≡ new.offset → verdict ≡ single_said answer stop
+      → SaysOne source depth room old verdict new
+  says_alone start place stop between pulled answer reads pulls is from here there said = record {
+    answer = answer;
+    checks = ends_one source depth room start place stop old between new pulled answer
+        (record { item = reads.items; is_item = reads.are_items; passed = reads.passed }) pulls is from here there;
+    said = said ∙ ap (λ (at : ℕ). single_said answer at) there;
+  }
+
+  -- The verdict on bytes that do not begin with an item.
+  pub says_no_item : (error : SkipError E) (place : ℕ) → SkipsCounted source 1 depth room old (Err error) new
+      → place ≡ new.offset → verdict ≡ fault_said error place → SaysOne source depth room old verdict new
+  says_no_item error place fails there said = record {
+    answer = Err (n.Item error);
+    checks = one_item source depth room old (Err error) new fails;
+    said = said ∙ ap (λ (at : ℕ). fault_said error at) there;
+  }
 
 -- A number below one that is at most the limit is at most the limit.
 pub fewer_most : (most : Option ℕ) (some all : ℕ) → some ≤ all → IsAtMost most all → IsAtMost most some

@@ -2,14 +2,15 @@
 
 ghost use Rattle.std.specs.Prelude.{◌≡◌, ◌≤◌, ◌+◌};
 ghost use Rattle.ciborium_ll.specs.Limits.{MOST_LEVELS};
-ghost use Rattle.tool_verdicts.specs.Checking.{SaysVerdict};
+ghost use Rattle.tool_verdicts.specs.Checking.{SaysOne, SaysVerdict};
 ghost use Rattle.tool_verdicts.specs.Parts.{IsAtMost, SaysPart, SaysSome};
 ghost use Rattle.tool_verdicts.specs.declared.check.TheConstants.{BUFFER_SIZE};
 
-use crate::check::{BUFFER_SIZE, fault_of, wanted};
+use crate::check::{BUFFER_SIZE, fault_of, single_verdict};
 use crate::part::{is_enough, verdict_at};
 use crate::verdict::Verdict;
 use cbor_ahead::{NESTS, pass_items, skip_items, skip_one};
+use cbor_dump::single::answer_end;
 use ciborium_ll::Decoder;
 use ciborium_ll::io::{BufferedReader, Read};
 use std::io;
@@ -50,12 +51,32 @@ fn all_ahead<'a, T: io::Read>(
     ensures { SaysVerdict ⟦<BufferedReader<'a, T> as Read>⟧ one depth BUFFER_SIZE decoder.entry result.1 result.0 }
 {
     if one {
-        let mut single = decoder;
-        let verdict = wanted(&mut single, true, depth);
-        (single, verdict)
+        one_ahead(decoder, depth)
     } else {
         some_ahead(decoder, None, depth)
     }
+}
+
+/// Checks one item, and that nothing follows it.
+fn one_ahead<'a, T: io::Read>(
+    decoder: Decoder<BufferedReader<'a, T>>,
+    depth: usize,
+) -> (Decoder<BufferedReader<'a, T>>, Verdict)
+    requires { depth ≤ MOST_LEVELS }
+    ensures { SaysOne ⟦<BufferedReader<'a, T> as Read>⟧ depth BUFFER_SIZE decoder.entry result.1 result.0 }
+{
+    let mut buffer = [0; BUFFER_SIZE];
+    let mut decoder = decoder;
+    let start = decoder.offset();
+    let (mut behind, outcome) = skip_items(decoder, 1, NESTS, depth, &mut buffer);
+    let place = behind.offset();
+    if let Err(error) = outcome {
+        return (behind, fault_of(error, place));
+    }
+    let pulled = behind.pull();
+    let stop = behind.offset();
+    let answer = answer_end(pulled, start, place, stop);
+    (behind, single_verdict(answer, stop))
 }
 
 /// Checks at most `most` items, or all.

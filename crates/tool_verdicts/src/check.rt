@@ -117,7 +117,10 @@ where
 }
 
 /// Returns the verdict on one item. A read that failed stopped at this offset.
-fn single_verdict<E: Drop>(answer: Result<Sequence<E>, NotOne<E>>, offset: usize) -> Verdict
+pub(crate) fn single_verdict<E: Drop>(
+    answer: Result<Sequence<E>, NotOne<E>>,
+    offset: usize,
+) -> Verdict
     ensures { result ≡ single_said answer offset }
 {
     match answer {

@@ -34,13 +34,13 @@ returns g c =
     let depth = c.args.depth in
     let room = length c.args.buffer.now in
     let new = c.offset.new.self in
-    let result = c.alone.result in
+    let result = c.answer_end.result in
     let reads : ReadsItem g.R.Read depth old c.skip_item.new.decoder =
     rw c.offset-start.ensures.same at c.in_default.ensures.skipped.skipped in
     let pulls = rw (← c.offset.ensures.same, c.offset-place.ensures.same) at c.pull-pulled.ensures.header in
     let checks =
     ends_one g.R.Read depth room c.offset-start.result c.offset-place.result c.offset.result old
-    c.skip_item.new.decoder new c.pull-pulled.result result reads pulls c.alone.ensures c.offset-start.ensures.value
+    c.skip_item.new.decoder new c.pull-pulled.result result reads pulls c.answer_end.ensures c.offset-start.ensures.value
     c.offset-place.ensures.value (rw c.offset.ensures.same c.offset.ensures.value) in
     record {
       checks = checks;
