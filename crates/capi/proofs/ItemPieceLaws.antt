@@ -9,6 +9,8 @@ use Rattle.cbor_item_copier.specs.declared.progress.End.{End}
 use Rattle.cbor_item_copier.specs.declared.progress.End.TheVariants as e
 use Rattle.cbor_item_copier.specs.Copying.{Answers, AnswersEnd, AnswersPiece, HasCopied, pending}
 use Rattle.cbor_item_copier.specs.Reading.{Copies, IsLast, IsMore, IsRoom, Tells, TellsEnd}
+use Rattle.cbor_item_copier.specs.Snapshots.{Saves}
+use Rattle.cbor_item_copier.proofs.SavedLaws.{saves_some}
 use Rattle.cbor_item_copier.proofs.ReadLaws.{answers_unless, one_pending, same_answer, same_end}
 use Rattle.cbor_checker.specs.declared.phase.Fault.TheVariants as f
 use Rattle.capi.specs.declared.answer.CllAnswer.{CllAnswer}
@@ -16,7 +18,7 @@ use Rattle.capi.specs.declared.answer.CllAnswer.TheVariants as a
 use Rattle.capi.specs.declared.answer.CllReport.{CllReport}
 use Rattle.capi.specs.declared.item_copier.CllItemCopier.{CllItemCopier}
 use Rattle.capi.specs.Answers.{Reports}
-use Rattle.capi.specs.ItemPieces.{EndsItem, FeedsItem, IsItemCopyKept, SaysOfItem}
+use Rattle.capi.specs.ItemPieces.{EndsItem, FeedsItem, IsItemCopier, IsItemCopyKept, SaysOfItem}
 use Rattle.capi.specs.ItemPieces.{SaysOfItemEnd, item_answer, item_end_answer, item_end_number, item_number}
 
 -- ---- a piece
@@ -146,3 +148,10 @@ ends s d read written end number answer report now was is told answer_is number_
         none_spelled = reports.none_spelled;
       };
     }
+
+-- ---- the memory
+
+-- Memory with the mark and the numbers of a copier of items holds it.
+pub is_item_copier : (memory : CllItemCopier) (copier : ItemCopier) → memory.mark ≡ 8029466375530767725
+    → Saves copier memory.state → IsItemCopier memory
+is_item_copier memory copier mark saves = record { mark = mark; state = saves_some copier memory.state saves }

@@ -1,3 +1,4 @@
+pub mod CheckerLaws
 pub mod CopyLaws
 pub mod CountLaws
 pub mod CutTitles

@@ -32,6 +32,7 @@ const _: () = prove!(size_of::<CllChecker>() == 2368);
 impl CllChecker {
     /// Makes `checker` the one that this memory holds, and says whether it holds one.
     #[inline(always)]
+    #[tactic(auto, using(crate::proofs::CheckerLaws::is_checker))]
     fn load_into(&self, checker: &mut Checker) -> bool
         ensures kept { (allowed : Spelling) (depth : ℕ) (read : List ℕ) → IsKept allowed depth read self.now
             → (result ≡ true) × HasRead allowed depth read checker.new }

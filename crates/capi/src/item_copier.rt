@@ -34,6 +34,7 @@ const _: () = prove!(size_of::<CllItemCopier>() == 2432);
 impl CllItemCopier {
     /// Makes `copier` the one that this memory holds, and says whether it holds one.
     #[inline(always)]
+    #[tactic(auto, using(crate::proofs::ItemPieceLaws::is_item_copier))]
     fn load_into(&self, copier: &mut ItemCopier) -> bool
         ensures some { result ≡ true → IsItemCopier self.now }
         ensures kept { (allowed : Spelling) (depth : ℕ) (read written : List ℕ)
