@@ -78,6 +78,7 @@ pub(crate) fn whole<'a>(item: &CllItem<'a>) -> Option<Item<'a>>
 }
 
 /// Tells the header of the title with which the bytes begin.
+#[tactic(auto, using(crate::proofs::ViewLaws::no_title))]
 pub(crate) fn tell_header(bytes: &[u8], header: &mut CllHeader) -> CllAnswer
     ensures exactly { result ≡ a.Ok ↔ BeginsWithTitle bytes.now }
     ensures told { TellsHeader bytes.now result header.old header.new }

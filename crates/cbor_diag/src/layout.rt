@@ -84,6 +84,7 @@ impl Line {
     }
 
     /// Writes the text before an item: the comma after another item, and the space.
+    #[tactic(auto, using(crate::proofs::ShowLaws::writes))]
     pub(crate) fn before<W: Write>(
         self,
         writer: &mut W,

@@ -29,6 +29,6 @@ returns-clause-kept c = λ more.
       | else-first-eq3-via-else-first-eq3 w ↦ absurd (omega (arith, three, w.if-first-eq3.false))
     ] in
     let kept = long_string rest b below first c.requires.string (omega (arith, c.if-first-ne24.false))
-    (omega (arith, size, c.from-len.ensures, c.if-bytes-at-lt24.false))
+    (omega (arith, size, c.from-len.ensures))
     (omega (arith, size, long, c.if-len-left.false)) text in
     rw size at kept
