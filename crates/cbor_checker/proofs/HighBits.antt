@@ -70,14 +70,14 @@ low_in word mask other from until xs at none mask_is other_is first last same j 
 pub none_set : (a b : ℕ) → bit_or a b ≡ 0 → (a ≡ 0) × (b ≡ 0)
 none_set a b e = omega (arith, or_add_and a b, and_le_l a b, and_le_r a b)
 
--- A part of up to 16 bytes is ASCII if both words have no high bit in the bytes of this part.
-pub part_ascii : (xs : List ℕ) (at len start : ℕ) → at + len ≤ length xs → start ≤ at → at - start + len ≤ 16
-    → ((j : ℕ) → j < 8 → at - start + 16 ≤ j + 16 → j + 16 < at - start + len + 16 → slice_index xs (start + j) < 128)
-    → ((j : ℕ) → j < 8 → at - start + 8 ≤ j + 16 → j + 16 < at - start + len + 8
-    → slice_index xs (start + 8 + j) < 128) → IsAscii (take len (drop at xs))
-part_ascii xs at len start le least few one two = λ i.
-    let sum : start + (at - start + i) ≡ at + i = omega (arith, least) in
-    let other : 8 ≤ at - start + i → start + 8 + (at - start + i - 8) ≡ at + i = λ l. omega (arith, least, l) in
-    let low = one (at - start + i) in
-    let high = two (at - start + i - 8) in
+-- A part of up to 16 bytes, after the first `before`, is ASCII if both words have no high bit in the bytes of this part.
+pub part_ascii : (xs : List ℕ) (start before len : ℕ) → start + before + len ≤ length xs → before + len ≤ 16
+    → ((j : ℕ) → j < 8 → before + 16 ≤ j + 16 → j + 16 < before + len + 16 → slice_index xs (start + j) < 128)
+    → ((j : ℕ) → j < 8 → before + 8 ≤ j + 16 → j + 16 < before + len + 8 → slice_index xs (start + 8 + j) < 128)
+    → IsAscii (take len (drop (start + before) xs))
+part_ascii xs start before len le few one two = λ i.
+    let sum : start + (before + i) ≡ start + before + i = omega arith in
+    let other : 8 ≤ before + i → start + 8 + (before + i - 8) ≡ start + before + i = λ l. omega (arith, l) in
+    let low = one (before + i) in
+    let high = two (before + i - 8) in
     grind (arith, get_or-take, get_or-drop, get_or_past, length-take-le, length-drop)

@@ -18,6 +18,7 @@ pub mod SettledLaws
 pub mod StackLaws
 pub mod StepLaws
 pub mod StringLaws
+pub mod TagLaws
 pub mod TellLaws
 pub mod TitleDueLaws
 pub mod Waiting

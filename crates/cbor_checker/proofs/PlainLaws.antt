@@ -1,7 +1,7 @@
 -- Plain items: the table's entries for first bytes, and the spots that plain items lead to.
 use Rattle.std.proofs.Common.{◌≡◌, ℕ, suc, ◌+◌, ◌-◌, ◌*◌, ◌/◌, ◌%◌, ◌<◌, ◌≤◌, ◌^◌, Bool, true, false, List, [], ◌∷◌}
 use Rattle.std.proofs.Common.{◌&&◌, ◌||◌, eqb, ltb, get_or, length, take, drop, slice_index, refl, sym, ap, ◌∙◌, arith}
-use Rattle.std.proofs.Common.{inl, inr, None}
+use Rattle.std.proofs.Common.{add-zero, inl, inr, None}
 use borrow.Author.Tests.{le-ltb, lt-ltb}
 use Rattle.std.proofs.lemmas.Bool.{agree_below_at, and_parts}
 use Rattle.std.proofs.lemmas.Bool.Decides.{nat_tests}
@@ -27,7 +27,7 @@ use Rattle.ciborium_ll_grammar.proofs.TitleKinds.{kind_names, kind_of}
 use Rattle.cbor_parser.specs.declared.strings.Within.TheVariants as w
 use Rattle.cbor_checker.specs.declared.plain.TheConstants.{LENS, TEXT_LENS}
 use Rattle.cbor_checker.specs.Blocked.{blocked, is_single}
-use Rattle.cbor_checker.specs.Plain.{ArePlain, IsPlainItem, IsSpan, IsValueMajor, more}
+use Rattle.cbor_checker.specs.Plain.{ArePlain, IsPlacedItem, IsPlainItem, IsSpan, IsValueMajor, more}
 use Rattle.cbor_checker.specs.Spots.{Spot, item_done, item_entered}
 use Rattle.cbor_checker.proofs.ItemLeads.{bytes_item, one_long, text_item, title_item, value_item}
 
@@ -185,11 +185,25 @@ module _ (xs : List ℕ) (len : ℕ) (allowed : Spelling) (below : Below xs) (so
 
 -- ---- items one after another
 
--- One more plain item follows the plain items before.
-pub plain_more : (allowed : Spelling) (offset first last most left at len : ℕ) (xs : List ℕ) → at ≤ length xs → 0 < left
-    → left ≤ most → ArePlain allowed offset first (most - left) last (take at xs)
-    → IsPlainItem allowed (take len (drop at xs))
-    → ArePlain allowed offset first (most - (left - 1)) (offset + at) (take (at + len) xs)
-plain_more allowed offset first last most left at len xs le some fits so_far one =
+-- A plain item has no tag.
+pub without_tag : (allowed : Spelling) (tags : Bool) (item : List ℕ) → IsPlainItem allowed item
+    → IsPlacedItem allowed tags 0 item
+without_tag allowed tags item plain = λ s at clear none same deep. rw (add-zero s.offset) (plain s at clear none same)
+
+-- One more item follows the items before.
+pub placed_more : (allowed : Spelling) (tags : Bool) (offset first last most left at start len place : ℕ) (xs : List ℕ)
+    → at ≤ length xs → 0 < left → left ≤ most → ArePlain allowed tags offset first (most - left) last (take at xs)
+    → IsPlacedItem allowed tags start (take len (drop at xs)) → place ≡ offset + at + start
+    → ArePlain allowed tags offset first (most - (left - 1)) place (take (at + len) xs)
+placed_more allowed tags offset first last most left at start len place xs le some fits so_far one is =
     let count : suc (most - left) ≡ most - (left - 1) = omega arith in
-    rw (take-add at len xs) (rw (count, length-take-le at xs le) at (more so_far one))
+    rw (take-add at len xs, is) (rw (count, length-take-le at xs le) at (more start so_far one))
+
+-- One more plain item follows the items before.
+pub plain_more : (allowed : Spelling) (tags : Bool) (offset first last most left at len : ℕ) (xs : List ℕ)
+    → at ≤ length xs → 0 < left → left ≤ most → ArePlain allowed tags offset first (most - left) last (take at xs)
+    → IsPlainItem allowed (take len (drop at xs))
+    → ArePlain allowed tags offset first (most - (left - 1)) (offset + at) (take (at + len) xs)
+plain_more allowed tags offset first last most left at len xs le some fits so_far one =
+    placed_more allowed tags offset first last most left at 0 len (offset + at) xs le some fits so_far
+    (without_tag allowed tags _ one) (omega arith)

@@ -1,14 +1,15 @@
 -- The spots after a run of plain items in a nest whose items are counted, and after the title of a nest.
 use Rattle.std.proofs.Common.{◌≡◌, ℕ, zero, suc, ◌+◌, ◌-◌, ◌<◌, ◌≤◌, List, [], ◌∷◌, ◌++◌, length, refl, sym, ap, subst}
 use Rattle.std.proofs.Common.{◌∙◌, arith, Some, None, length-append, zero-add, add-zero, add-one, ◌*◌, take, drop}
-use Rattle.std.proofs.Common.{slice_index}
+use Rattle.std.proofs.Common.{Bool, slice_index, true}
 use Rattle.std.proofs.lemmas.Bool.Decides.{nat_tests}
 use Rattle.cbor_nests.specs.declared.remaining.Remaining.{Remaining}
 use Rattle.cbor_checker.specs.declared.phase.Phase.TheVariants as p
 use Rattle.cbor_parser.specs.declared.strings.Within.TheVariants as w
 use Rattle.cbor_nests.specs.Remaining.{next}
 use Rattle.cbor_checker.specs.Stack.{innermost, others}
-use Rattle.cbor_checker.specs.Plain.{ArePlain, counted_behind, lowered, more, none, pairs_of, passed, IsNestTitle}
+use Rattle.cbor_checker.specs.Plain.{ArePlain, counted_behind, lowered, more, none, pairs_of, passed, placed}
+use Rattle.cbor_checker.specs.Plain.{IsNestTitle}
 use Rattle.cbor_checker.specs.Spots.{Spot, item_done, settled, item_due, item_entered, nested}
 use Rattle.cbor_checker.specs.Steps.{Leads, stay}
 use Rattle.cbor_checker.proofs.ItemLeads.{due, from_due, title_leads}
@@ -39,19 +40,22 @@ lowered_same level count e = grind (arith, nat_tests)
 
 -- ---- the spot after the items
 
-run_leads : (s : Spot) (rest : List Remaining) (level : Remaining) (all count left last : ℕ) (bytes : List ℕ)
-    → counted_behind level ≡ Some all → ArePlain s.allowed s.offset s.place count last bytes
+run_leads : (s : Spot) (rest : List Remaining) (level : Remaining) (tags : Bool) (all count left last : ℕ)
+    (bytes : List ℕ) → counted_behind level ≡ Some all → (tags ≡ true → 0 < s.depth)
+    → ArePlain s.allowed tags s.offset s.place count last bytes
     → Leads (record (due s) { levels = lowered (count + left) level ∷ rest }) bytes
     (record (due s) { levels = lowered left level ∷ rest; place = last; offset = s.offset + length bytes })
-run_leads s rest level all zero left last bytes is none = rw (zero-add left, add-zero s.offset) stay
-run_leads s rest level all (suc count) left last bytes is (more {last = place} {bytes = xs} {item = item} so_far one) =
+run_leads s rest level tags all zero left last bytes is deep none = rw (zero-add left, add-zero s.offset) stay
+run_leads s rest level tags all (suc count) left last bytes is deep (more {last = place} {bytes = xs} {item = item}
+    start so_far one) =
     let here : suc count + left ≡ count + suc left = omega arith in
     let long : s.offset + length (xs ++ item) ≡ s.offset + length xs + length item =
     omega (arith, length-append xs item) in
     let sum : ℕ = s.offset + length xs in
     let m : Spot = record (due s) { levels = lowered (suc left) level ∷ rest; place = place; offset = sum } in
-    let goes = rw (next_lowered level all left is, settled) at (one m refl refl refl refl) in
-    rw (here, long) (leads_more _ m _ xs item (run_leads s rest level all count (suc left) place xs is so_far) goes)
+    let goes = rw (next_lowered level all left is, settled) at (one m refl refl refl refl deep) in
+    rw (here, long) (leads_more _ m _ xs item
+    (run_leads s rest level tags all count (suc left) place xs is deep so_far) goes)
 
 stack_of : (levels : List Remaining) (level : Remaining) (left : ℕ) → Some level ≡ innermost levels
     → counted_behind level ≡ Some left → levels ≡ lowered left level ∷ others levels
@@ -62,9 +66,9 @@ abbrev moved : ℕ → List Remaining → ℕ → ℕ → Spot → Spot
 moved depth levels place offset s = record s { depth = depth; levels = levels; place = place; offset = offset }
 
 -- Bytes that lead on in the lowered level lead on in the innermost level.
-module _ (s : Spot) (level : Remaining) (left : ℕ) (at : s.phase ≡ p.Title) (clear : length s.front ≡ 0)
-    (in_none : s.within ≡ w.Nothing) (is : Some level ≡ innermost s.levels)
-    (all : counted_behind level ≡ Some left) where
+module _ (s : Spot) (level : Remaining) (tags : Bool) (left : ℕ) (at : s.phase ≡ p.Title)
+    (clear : length s.front ≡ 0) (in_none : s.within ≡ w.Nothing) (is : Some level ≡ innermost s.levels)
+    (all : counted_behind level ≡ Some left) (deep : tags ≡ true → 0 < s.depth) where
   from_stack : {bytes : List ℕ} (count : ℕ) (To : Spot → Spot) → left ≡ count
       → Leads (record (due s) { levels = lowered count level ∷ others s.levels }) bytes (To (due s))
       → Leads s bytes (To s)
@@ -76,22 +80,22 @@ module _ (s : Spot) (level : Remaining) (left : ℕ) (at : s.phase ≡ p.Title) 
 
   -- After some of the items, another item is due in the nest.
   pub run_goes : (last : ℕ) (bytes : List ℕ) (behind : ℕ) → 0 < behind → behind ≤ left + 1
-      → ArePlain s.allowed s.offset s.place (left + 1 - behind) last bytes
+      → ArePlain s.allowed tags s.offset s.place (left + 1 - behind) last bytes
       → Leads s bytes (moved s.depth (lowered (behind - 1) level ∷ others s.levels) last (s.offset + length bytes) s)
   run_goes last bytes behind some fits plain =
       from_stack (left + 1 - behind + (behind - 1))
       (λ z. moved z.depth (lowered (behind - 1) level ∷ others z.levels) last (z.offset + length bytes) z) (omega arith)
-      (run_leads s (others s.levels) level left (left + 1 - behind) (behind - 1) last bytes all plain)
+      (run_leads s (others s.levels) level tags left (left + 1 - behind) (behind - 1) last bytes all deep plain)
 
   -- After all items, the nest is done.
   pub run_ends : (last : ℕ) (bytes : List ℕ) (count : ℕ) → count ≡ suc left
-      → ArePlain s.allowed s.offset s.place count last bytes
+      → ArePlain s.allowed tags s.offset s.place count last bytes
       → Leads s bytes (item_done (moved (s.depth + 1) (others s.levels) last (s.offset + length bytes) s))
   run_ends last bytes zero e plain = absurd (omega arith)
-  run_ends last bytes (suc count) e (more {last = place} {bytes = xs} {item = item} so_far one) =
+  run_ends last bytes (suc count) e (more {last = place} {bytes = xs} {item = item} start so_far one) =
       let rest : List Remaining = others s.levels in
       let m : Spot = record (due s) { levels = lowered 0 level ∷ rest; place = place; offset = s.offset + length xs } in
-      let u : Spot = passed (length item) m in
+      let u : Spot = placed start (length item) m in
       let long : s.offset + length (xs ++ item) ≡ s.offset + length xs + length item =
       omega (arith, length-append xs item) in
       let done : item_done u ≡ settled (suc s.depth) rest u = rw (last_lowered level left all, settled) refl in
@@ -99,7 +103,8 @@ module _ (s : Spot) (level : Remaining) (left : ℕ) (at : s.phase ≡ p.Title) 
       from_stack (count + 0)
       (λ z. item_done (moved (z.depth + 1) (others z.levels) last (z.offset + length (xs ++ item)) z)) (omega arith)
       (rw (long, add-one s.depth) (leads_more _ m _ xs item
-      (run_leads s rest level left count 0 place xs all so_far) (subst (Leads m item) to (one m refl refl refl refl))))
+      (run_leads s rest level tags left count 0 place xs all deep so_far)
+      (subst (Leads m item) to (one m refl refl refl refl deep))))
 
 -- ---- the title of a nest
 
@@ -136,9 +141,10 @@ map_enters b k e small =
 one_byte : (xs : List ℕ) → 0 < length xs → slice_index xs 0 ∷ [] ≡ take 1 xs
 one_byte xs some = grind (arith, nat_tests)
 
-module _ (s : Spot) (level : Remaining) (left last len : ℕ) (xs : List ℕ) (at : s.phase ≡ p.Title)
+module _ (s : Spot) (level : Remaining) (tags : Bool) (left last len : ℕ) (xs : List ℕ) (at : s.phase ≡ p.Title)
     (clear : length s.front ≡ 0) (in_none : s.within ≡ w.Nothing) (deep : 0 < s.depth) (le : len ≤ length xs - 1)
-    (enters : IsNestTitle (slice_index xs 0) level) (all : counted_behind level ≡ Some left) where
+    (enters : IsNestTitle (slice_index xs 0) level) (all : counted_behind level ≡ Some left)
+    (deeper : tags ≡ true → 1 < s.depth) where
   -- The spot after the title of the nest.
   abbrev m : Spot
   m = item_due (s.depth - 1) (level ∷ s.levels) (passed 1 (due s))
@@ -155,19 +161,23 @@ module _ (s : Spot) (level : Remaining) (left last len : ℕ) (xs : List ℕ) (a
   long : length items ≡ len
   long = length-take-le len (take (length xs - 1) (drop 1 xs)) (omega (arith, rest_long xs 1, le))
 
+  -- With `tags`, a level is left within the nest.
+  within : tags ≡ true → 0 < m.depth
+  within are = omega (arith, deeper are)
+
   -- After some of the items, another item is due in the nest.
   pub nest_goes : 0 < length xs → (behind : ℕ) → 0 < behind → behind ≤ left + 1
-      → ArePlain s.allowed (s.offset + 1) s.offset (left + 1 - behind) last items → Leads s (take (1 + len) xs)
+      → ArePlain s.allowed tags (s.offset + 1) s.offset (left + 1 - behind) last items → Leads s (take (1 + len) xs)
       (moved (s.depth - 1) (lowered (behind - 1) level ∷ s.levels) last (s.offset + 1 + len) s)
   nest_goes some behind due_more fits plain =
       leads_in some (λ z. moved (z.depth - 1) (lowered (behind - 1) level ∷ z.levels) last (z.offset + 1 + len) z)
-      (rw long at (run_goes m level left refl refl refl refl all last items behind due_more fits plain))
+      (rw long at (run_goes m level tags left refl refl refl refl all within last items behind due_more fits plain))
 
   -- After all items, the nest is done.
   pub nest_ends : 0 < length xs → (count : ℕ) → count ≡ suc left
-      → ArePlain s.allowed (s.offset + 1) s.offset count last items
+      → ArePlain s.allowed tags (s.offset + 1) s.offset count last items
       → Leads s (take (1 + len) xs) (item_done (record s { place = last; offset = s.offset + 1 + len }))
   nest_ends some count counts plain =
       let given_back : s.depth - 1 + 1 ≡ s.depth = omega (arith, deep) in
       leads_in some (λ (z : Spot). item_done (record z { place = last; offset = z.offset + 1 + len }))
-      (rw (long, given_back) at (run_ends m level left refl refl refl refl all last items count counts plain))
+      (rw (long, given_back) at (run_ends m level tags left refl refl refl refl all within last items count counts plain))

@@ -1,6 +1,6 @@
 -- Items whose first bytes give their length, and whose bytes are all there.
 use Rattle.std.specs.Prelude.{◌≡◌, ◌==◌, ℕ, zero, suc, ◌+◌, ◌*◌, ◌/◌, ◌%◌, ◌<◌, ◌≤◌, ◌⊎◌, List, [], ◌∷◌, ◌++◌, ◌-◌, length}
-use Rattle.std.specs.Prelude.{if◌then◌else◌, Option, Some, None}
+use Rattle.std.specs.Prelude.{if◌then◌else◌, Bool, true, Option, Some, None}
 use Rattle.ciborium_ll_grammar.specs.declared.spelling.Spelling.{Spelling}
 use Rattle.ciborium_ll_grammar.specs.Title.{affix_len}
 use Rattle.cbor_checker.specs.declared.phase.Phase.TheVariants as p
@@ -20,6 +20,25 @@ abbrev pub IsPlainItem : Spelling → List ℕ → Type 0
 IsPlainItem allowed bytes = (spot : Spot) → spot.phase ≡ p.Title → length spot.front ≡ 0 → spot.within ≡ w.Nothing
     → spot.allowed ≡ allowed → Leads spot bytes (item_done (passed (length bytes) spot))
 
+-- If an item is due and a level is left, these bytes are the title of a tag, as `c1` is. The item with the tag is due
+-- within that level (RFC 7049, 2.4).
+abbrev pub IsTagTitle : Spelling → List ℕ → Type 0
+IsTagTitle allowed bytes = (spot : Spot) → spot.phase ≡ p.Title → length spot.front ≡ 0 → spot.within ≡ w.Nothing
+    → spot.allowed ≡ allowed → 0 < spot.depth
+    → Leads spot bytes (item_due (spot.depth - 1) (l.Items 0 ∷ spot.levels) (passed (length bytes) spot))
+
+-- The spot after this many bytes that end with an item, whose title begins after the first `start` bytes. Three bytes
+-- from 5 on, the first of them a tag, lead to the place 6 and the offset 8.
+abbrev pub placed : ℕ → ℕ → Spot → Spot
+placed start len spot = record spot { front = []; place = spot.offset + start; offset = spot.offset + len }
+
+-- If an item is due, these bytes are an item and lead past it, as `c1 01` do. Its title begins after the first `start`
+-- bytes, here 1. With `tags`, a level has to be left (RFC 7049, 2.1 and 2.4).
+abbrev pub IsPlacedItem : Spelling → Bool → ℕ → List ℕ → Type 0
+IsPlacedItem allowed tags start bytes = (spot : Spot) → spot.phase ≡ p.Title → length spot.front ≡ 0
+    → spot.within ≡ w.Nothing → spot.allowed ≡ allowed → (tags ≡ true → 0 < spot.depth)
+    → Leads spot bytes (item_done (placed start (length bytes) spot))
+
 -- The major types of numbers, floats and simple values (RFC 7049, 2.1): 0, 1 and 7, as of `01`, `20` and `f4`.
 abbrev pub IsValueMajor : ℕ → Type 0
 IsValueMajor major = (major ≡ 0) ⊎ ((major ≡ 1) ⊎ (major ≡ 7))
@@ -37,13 +56,14 @@ IsSpan first len text_len =
     × IsValueMajor (first / 32)
     ⊎ (len ≡ 1 + first % 32) × (first % 32 < 24) × (first / 32 ≡ 3) × (text_len ≡ first % 32))))
 
--- `ArePlain allowed offset first count last bytes`: these bytes are `count` plain items, joined, and begin at the
--- offset. `last` is the offset of the last item, or `first` if there is none. In `01 02` at 5, the last item is at 6.
-pub data ArePlain (allowed : Spelling) (offset first : ℕ) : ℕ → ℕ → List ℕ → Type 0 where
-  none : ArePlain allowed offset first zero first []
-  more : {count last : ℕ} {bytes item : List ℕ} → ArePlain allowed offset first count last bytes
-      → IsPlainItem allowed item
-      → ArePlain allowed offset first (suc count) (offset + length bytes) (bytes ++ item)
+-- `ArePlain allowed tags offset first count last bytes`: these bytes are `count` items, joined, and begin at the offset.
+-- `last` is the offset of the last item's title, or `first` if there is none. In `01 c1 02` at 5, it is 7. With `tags`, a
+-- level has to be left.
+pub data ArePlain (allowed : Spelling) (tags : Bool) (offset first : ℕ) : ℕ → ℕ → List ℕ → Type 0 where
+  none : ArePlain allowed tags offset first zero first []
+  more : {count last : ℕ} {bytes item : List ℕ} (start : ℕ) → ArePlain allowed tags offset first count last bytes
+      → IsPlacedItem allowed tags start item
+      → ArePlain allowed tags offset first (suc count) (offset + length bytes + start) (bytes ++ item)
 
 -- How many items are due in a nest after the current item, if they are counted (RFC 7049, 2.1): 4 for two pairs, and 5
 -- for a value and two pairs. The items of `9f` are not counted.

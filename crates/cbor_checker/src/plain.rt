@@ -5,8 +5,12 @@ ghost use Rattle.std.specs.Prelude.{Bool, ℕ, ◌≡◌, ◌+◌, ◌-◌, ◌<
 ghost use Rattle.std.specs.Str.{IsAscii};
 ghost use Rattle.ciborium_ll_text.specs.declared.state.State.TheVariants as s;
 ghost use Rattle.ciborium_ll_text.specs.States.{after};
-ghost use Rattle.cbor_checker.specs.Plain.{ArePlain, IsPlainItem, IsSpan};
+ghost use Rattle.cbor_checker.specs.Plain.{ArePlain, IsPlainItem, IsSpan, IsTagTitle};
+ghost use Rattle.cbor_checker.specs.declared.plain.TheConstants.{SHORT};
 
+use cbor_parser::title::taken_header;
+use ciborium_ll_grammar::hdr::Header;
+use ciborium_ll_grammar::hdr::table::{TitleKind, row_of};
 use ciborium_ll_grammar::spelling::Spelling;
 use ciborium_ll_text::state::{State, text_front};
 
@@ -146,23 +150,36 @@ fn high_bits(bytes: &[u8], at: usize, from: usize, until: usize) -> u64
 /// The number of bytes of two words.
 const SHORT: usize = 16;
 
+/// Returns whether `len` of the two words from `start` on are ASCII, those after the first `before`.
+#[inline(always)]
+fn is_part_ascii(bytes: &[u8], start: usize, before: usize, len: usize) -> bool
+    requires there { start + SHORT ≤ length bytes.now }
+    requires short { before + len ≤ SHORT }
+    ensures { result ≡ true → IsAscii (take len (drop (start + before) bytes.now)) }
+{
+    let first = high_bits(bytes, start, before + 16, before + len + 16);
+    let second = high_bits(bytes, start + 8, before + 8, before + len + 8);
+    first | second == 0
+}
+
 /// Returns whether the `len` bytes from `at` on are ASCII; `false` says nothing.
 ///
-/// With at least 16 bytes in all, up to 16 take no branch by their number or offset. If two words from `at` on reach
-/// too far, the call reads the last two.
+/// With at least 16 bytes in all, up to 16 take no branch by their number. If two words from `at` on reach too far, the
+/// call reads the last two.
 #[inline(always)]
 fn is_ascii_from(bytes: &[u8], at: usize, len: usize) -> bool
     requires { at + len ≤ length bytes.now }
     ensures { result ≡ true → IsAscii (take len (drop at bytes.now)) }
 {
-    if len <= SHORT && bytes.len() >= SHORT {
-        let start = at.min(bytes.len() - SHORT);
-        let before = at - start;
-        let first = high_bits(bytes, start, before + 16, before + len + 16);
-        let second = high_bits(bytes, start + 8, before + 8, before + len + 8);
-        return first | second == 0;
+    if len > SHORT || bytes.len() < SHORT {
+        return bytes[at..at + len].is_ascii();
     }
-    bytes[at..at + len].is_ascii()
+    let last = bytes.len() - SHORT;
+    if at <= last {
+        is_part_ascii(bytes, at, 0, len)
+    } else {
+        is_part_ascii(bytes, last, at - last, len)
+    }
 }
 
 /// Returns whether the `len` bytes from `at` on fit two words and are ASCII; `false` says nothing.
@@ -244,8 +261,8 @@ fn run_of(bytes: &[u8], most: usize, spelling: Spelling, offset: usize, place: &
     ensures within { result.len ≤ length bytes.now }
     ensures most { result.left ≤ most }
     ensures some { result.left < most → 0 < result.len }
-    ensures plain { ArePlain spelling offset place.old (most - result.left) place.new
-        (take result.len bytes.now) }
+    ensures plain { (tags : Bool)
+        → ArePlain spelling tags offset place.old (most - result.left) place.new (take result.len bytes.now) }
 {
     let mut at = 0;
     let mut left = most;
@@ -272,8 +289,8 @@ fn ascii_run(bytes: &[u8], most: usize, spelling: Spelling, offset: usize, place
     ensures within { result.len ≤ length bytes.now }
     ensures most { result.left ≤ most }
     ensures some { result.left < most → 0 < result.len }
-    ensures plain { ArePlain spelling offset place.old (most - result.left) place.new
-        (take result.len bytes.now) }
+    ensures plain { (tags : Bool)
+        → ArePlain spelling tags offset place.old (most - result.left) place.new (take result.len bytes.now) }
 {
     match spelling {
         Spelling::Any => run_of(bytes, most, Spelling::Any, offset, place),
@@ -328,8 +345,8 @@ fn text_run(bytes: &[u8], most: usize, offset: usize, place: &mut usize) -> Run
     ensures within { result.len ≤ length bytes.now }
     ensures most { result.left ≤ most }
     ensures some { result.left < most → 0 < result.len }
-    ensures plain { (allowed : Spelling)
-        → ArePlain allowed offset place.old (most - result.left) place.new (take result.len bytes.now) }
+    ensures plain { (allowed : Spelling) (tags : Bool)
+        → ArePlain allowed tags offset place.old (most - result.left) place.new (take result.len bytes.now) }
 {
     let mut at = 0;
     let mut left = most;
@@ -347,22 +364,96 @@ fn text_run(bytes: &[u8], most: usize, offset: usize, place: &mut usize) -> Run
     Run { len: at, left }
 }
 
-/// Returns whether the title of a text begins at `at`.
+/// Returns the length of a tag's title at `at`, or 0 if no tag begins there, or if its title is not whole or not taken.
 #[inline(always)]
-fn begins_text(bytes: &[u8], at: usize) -> bool
-    ensures { result ≡ true → at < length bytes.now }
+fn tag_len(bytes: &[u8], at: usize, spelling: Spelling) -> usize
+    requires some { at < length bytes.now }
+    ensures within { at + result ≤ length bytes.now }
+    ensures tag { 0 < result → IsTagTitle spelling (take result (drop at bytes.now)) }
 {
-    at < bytes.len() && bytes[at] / 32 == 3
+    let rest = &bytes[at..];
+    let row = row_of(rest[0]);
+    let len = 1 + row.affix.len();
+    match row.kind {
+        TitleKind::Tag if len <= rest.len() => match taken_header(&rest[..len], spelling) {
+            Some(Header::Tag(_)) => len,
+            _ => 0,
+        },
+        _ => 0,
+    }
+}
+
+/// Takes at most `most` items that [`plain_len`] measures, each with a tag or without, if a level is left for the tag.
+/// The `place` becomes the offset of the last item, after its tag.
+#[inline(never)]
+fn tagged_run(bytes: &[u8], most: usize, spelling: Spelling, offset: usize, place: &mut usize) -> Run
+    requires room { offset + length bytes.now ≤ usize.MAX }
+    ensures within { result.len ≤ length bytes.now }
+    ensures most { result.left ≤ most }
+    ensures some { result.left < most → 0 < result.len }
+    ensures plain { ArePlain spelling true offset place.old (most - result.left) place.new
+        (take result.len bytes.now) }
+{
+    let mut at = 0;
+    let mut left = most;
+    let mut last = *place;
+    'items: while left > 0 && at < bytes.len() {
+        let item = at + tag_len(bytes, at, spelling);
+        if item == bytes.len() {
+            break 'items;
+        }
+        let len = plain_len(bytes, item, spelling);
+        if len == 0 {
+            break 'items;
+        }
+        last = offset + item;
+        at = item + len;
+        left -= 1;
+    }
+    *place = last;
+    Run { len: at, left }
+}
+
+/// Takes items at the start that [`ascii_run`] does not take: texts, or with `tags` items with tags. It takes at most
+/// `most`, and the `place` becomes the offset of the last one.
+#[inline(always)]
+fn other_run(
+    bytes: &[u8],
+    most: usize,
+    spelling: Spelling,
+    tags: bool,
+    offset: usize,
+    place: &mut usize,
+) -> Run
+    requires some { 0 < length bytes.now }
+    requires room { offset + length bytes.now ≤ usize.MAX }
+    ensures within { result.len ≤ length bytes.now }
+    ensures most { result.left ≤ most }
+    ensures some { result.left < most → 0 < result.len }
+    ensures plain { ArePlain spelling tags offset place.old (most - result.left) place.new
+        (take result.len bytes.now) }
+{
+    match bytes[0] / 32 {
+        3 => text_run(bytes, most, offset, place),
+        6 if tags => tagged_run(bytes, most, spelling, offset, place),
+        _ => Run {
+            len: 0,
+            left: most,
+        },
+    }
 }
 
 /// Takes at most `most` items that [`plain_len`] measures and texts of up to 255 bytes, if an item is due at `offset`.
-/// The `place` becomes the offset of the last item. The loop over items takes only texts of ASCII; other texts have
-/// their own.
+/// With `tags` it also takes items with one tag, for which a level has to be left. The `place` becomes the offset of the
+/// last item.
+///
+/// The loop over items takes only texts of ASCII. Other texts and items with tags have loops of their own.
 #[inline(always)]
 pub(crate) fn plain_run(
     bytes: &[u8],
     most: usize,
     spelling: Spelling,
+    tags: bool,
     offset: usize,
     place: &mut usize,
 ) -> Run
@@ -370,17 +461,18 @@ pub(crate) fn plain_run(
     ensures within { result.len ≤ length bytes.now }
     ensures most { result.left ≤ most }
     ensures some { result.left < most → 0 < result.len }
-    ensures plain { ArePlain spelling offset place.old (most - result.left) place.new
+    ensures plain { ArePlain spelling tags offset place.old (most - result.left) place.new
         (take result.len bytes.now) }
 {
     let mut run = ascii_run(bytes, most, spelling, offset, place);
-    'runs: while run.left > 0 && begins_text(bytes, run.len) {
-        let texts = text_run(&bytes[run.len..], run.left, offset + run.len, place);
-        if texts.len == 0 {
+    'runs: while run.left > 0 && run.len < bytes.len() {
+        let rest = &bytes[run.len..];
+        let others = other_run(rest, run.left, spelling, tags, offset + run.len, place);
+        if others.len == 0 {
             break 'runs;
         }
-        let at = run.len + texts.len;
-        let items = ascii_run(&bytes[at..], texts.left, spelling, offset + at, place);
+        let at = run.len + others.len;
+        let items = ascii_run(&bytes[at..], others.left, spelling, offset + at, place);
         run = Run {
             len: at + items.len,
             left: items.left,

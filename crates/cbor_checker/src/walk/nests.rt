@@ -72,7 +72,15 @@ impl Walk<'_> {
         let Some(left) = items_left(level) else {
             return (0, true);
         };
-        let run = plain_run(bytes, left + 1, self.spelling, self.offset, &mut self.place);
+        let tags = self.depth > 0;
+        let run = plain_run(
+            bytes,
+            left + 1,
+            self.spelling,
+            tags,
+            self.offset,
+            &mut self.place,
+        );
         self.offset += run.len;
         if run.left > 0 {
             self.levels.replace(lowered(level, run.left - 1));
@@ -108,10 +116,12 @@ impl Walk<'_> {
     {
         self.place = self.offset;
         self.offset += 1;
+        let tags = self.depth > 1; // One level is the nest's.
         let run = plain_run(
             &bytes[1..],
             nest.left + 1,
             self.spelling,
+            tags,
             self.offset,
             &mut self.place,
         );

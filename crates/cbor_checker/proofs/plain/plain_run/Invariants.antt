@@ -8,7 +8,7 @@ invariant-runs l =
       within : l.run.len ≤ length l.bytes;
       most : l.run.left ≤ l.most;
       some : l.run.left < l.most → 0 < l.run.len;
-      plain : ArePlain l.spelling l.offset l.fn.place (l.most - l.run.left) l.place
+      plain : ArePlain l.spelling l.tags l.offset l.fn.place (l.most - l.run.left) l.place
           (take l.run.len l.bytes);
     }
 

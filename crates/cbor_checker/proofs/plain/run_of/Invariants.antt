@@ -1,4 +1,4 @@
-use Rattle.std.proofs.Common.{◌<◌, ◌≤◌, ◌-◌, take, length}
+use Rattle.std.proofs.Common.{Bool, ◌<◌, ◌≤◌, ◌-◌, take, length}
 use Rattle.cbor_checker.specs.Plain.{ArePlain}
 use Rattle.cbor_checker.proofs.plain.run_of.Given as goal
 
@@ -8,7 +8,8 @@ invariant-items l =
       within : l.at ≤ length l.bytes;
       most : l.left ≤ l.most;
       some : l.left < l.most → 0 < l.at;
-      plain : ArePlain l.spelling l.offset l.fn.place (l.most - l.left) l.last (take l.at l.bytes);
+      plain : (tags : Bool)
+          → ArePlain l.spelling tags l.offset l.fn.place (l.most - l.left) l.last (take l.at l.bytes);
     }
 
 abbrev pub decreases-items : goal.decreases-items

@@ -34,8 +34,8 @@ returns-then-run-gt0-clause-leads c =
     record s { levels = z; place = c.plain_run-run.new.place; offset = s.offset + len } in
     subst (λ (z : List Remaining). Leads s bytes (new z run.len)) (sym levels)
     (subst (λ (z : ℕ). Leads s bytes (new (lowered (run.left - 1) level ∷ others s.levels) z)) long
-    (run_goes s level c.in-Some-items_left.left c.requires.phase c.requires.fresh c.requires.due (search rules)
-    (search rules) c.plain_run-run.new.place bytes run.left c.if-run-gt0.true c.plain_run-run.ensures.most
+    (run_goes s level _ c.in-Some-items_left.left c.requires.phase c.requires.fresh c.requires.due
+    (search rules) (search rules) (search rules) c.plain_run-run.new.place bytes run.left c.if-run-gt0.true c.plain_run-run.ensures.most
     c.plain_run-run.ensures.plain))
 
 pub returns-clause-leads : goal.returns-clause-leads
@@ -51,6 +51,6 @@ returns-clause-leads c =
     record s { depth = s.depth + 1; levels = z; place = c.plain_run-run.new.place; offset = s.offset + len } in
     subst (Leads s bytes) (sym (c.item_over.ensures.done ∙ (ap (λ (z : List Remaining). item_done (new z run.len)) levels
     ∙ ap (λ (z : ℕ). item_done (new (others s.levels) z)) (sym long))))
-    (run_ends s c.in-Some.level left c.requires.phase c.requires.fresh c.requires.due (search rules) (search rules)
-    c.plain_run-run.new.place bytes (left + 1 - run.left) (omega (arith, c.if-run-gt0.false))
+    (run_ends s c.in-Some.level _ left c.requires.phase c.requires.fresh c.requires.due (search rules)
+    (search rules) (search rules) c.plain_run-run.new.place bytes (left + 1 - run.left) (omega (arith, c.if-run-gt0.false))
     c.plain_run-run.ensures.plain)
