@@ -31,16 +31,6 @@ use Rattle.cbor_checker.specs.Plain.{ArePlain, IsPlacedItem, IsPlainItem, IsSpan
 use Rattle.cbor_checker.specs.Spots.{Spot, item_done, item_entered}
 use Rattle.cbor_checker.proofs.ItemLeads.{bytes_item, one_long, text_item, title_item, value_item}
 
--- ---- text
-
--- If the longest start of bytes that is text leaves no character begun, all bytes are text.
-pub front_ends : (xs front : List ℕ) (state : State) → IsFront xs front (drop (length front) xs)
-    → state ≡ after s.Between (drop (length front) xs) → state ≡ s.Between → s.Between ≡ after s.Between xs
-front_ends xs front state is behind between =
-    let rest = drop (length front) xs in
-    sym (ap (λ (z : List ℕ). after s.Between z) is.parts ∙ (after-append s.Between front rest
-    ∙ (ap (λ (z : State). after z rest) (text_ends front is.text) ∙ (sym behind ∙ between))))
-
 -- ---- the table
 
 abbrev value_test : ℕ → Bool
@@ -56,20 +46,24 @@ item_test first len text_len =
     || ((eqb len (1 + first % 32) && (ltb (first % 32) 24 && eqb (first / 32) 3)) && eqb text_len (first % 32)))))
 
 abbrev span_test : ℕ → ℕ → ℕ → Bool
-span_test first len text_len = item_test first len text_len && (eqb len 0 || ltb text_len len)
+span_test first len text_len =
+    item_test first len text_len && ((eqb len 0 || ltb text_len len) && ltb len 25)
 
 item_tells : (first len text_len : ℕ) → item_test first len text_len ≡ true → IsSpan first len text_len
 item_tells first len text_len e = grind (arith, nat_tests)
 
 span_tells : (first len text_len : ℕ) → span_test first len text_len ≡ true
-    → IsSpan first len text_len × (0 < len → text_len < len)
+    → IsSpan first len text_len × ((0 < len → text_len < len) × (len ≤ 24))
 span_tells first len text_len both =
     let parts = and_parts (item_test first len text_len) _ both in
-    (item_tells first len text_len parts.0, let less = parts.1 in grind (arith, nat_tests))
+    let ends = and_parts (eqb len 0 || ltb text_len len) _ parts.1 in
+    let less = ends.0 in
+    let most = ends.1 in
+    (item_tells first len text_len parts.0, (grind (arith, nat_tests), grind (arith, nat_tests)))
 
 -- The table has a true entry for each of the 256 first bytes.
 pub span_says : (first len text_len : ℕ) → first < 256 → len ≡ get_or LENS first 0
-    → text_len ≡ get_or TEXT_LENS first 0 → IsSpan first len text_len × (0 < len → text_len < len)
+    → text_len ≡ get_or TEXT_LENS first 0 → IsSpan first len text_len × ((0 < len → text_len < len) × (len ≤ 24))
 span_says first len text_len l len_is text_len_is =
     let passes = agree_below_at (λ (b : ℕ). span_test b (get_or LENS b 0) (get_or TEXT_LENS b 0)) (λ (b : ℕ). true)
     256 first refl l in

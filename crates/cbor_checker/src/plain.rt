@@ -6,13 +6,13 @@ ghost use Rattle.std.specs.Str.{IsAscii};
 ghost use Rattle.ciborium_ll_text.specs.declared.state.State.TheVariants as s;
 ghost use Rattle.ciborium_ll_text.specs.States.{after};
 ghost use Rattle.cbor_checker.specs.Plain.{ArePlain, IsPlainItem, IsSpan, IsTagTitle};
-ghost use Rattle.cbor_checker.specs.declared.plain.TheConstants.{SHORT};
+ghost use Rattle.cbor_checker.specs.declared.plain.TheConstants.{LONGEST_SPAN, SHORT};
 
 use cbor_parser::title::taken_header;
 use ciborium_ll_grammar::hdr::Header;
 use ciborium_ll_grammar::hdr::table::{TitleKind, row_of};
 use ciborium_ll_grammar::spelling::Spelling;
-use ciborium_ll_text::state::{State, text_front};
+use ciborium_ll_text::state::State;
 
 /// The length of an item in bytes, title included, by its first byte, with two lines for each major type. 0 says
 /// nothing.
@@ -73,6 +73,9 @@ static TEXT_LENS: [u8; 256] = [
     0, 0, 0, 0, 0, 0, 0, 0, 0, 0, 0, 0, 0, 0, 0, 0,
 ];
 
+/// The longest item whose first byte gives its length: a string of 23 bytes.
+const LONGEST_SPAN: usize = 24;
+
 /// The lengths that a first byte gives.
 #[derive(Drop)]
 struct Span {
@@ -87,6 +90,7 @@ struct Span {
 fn span_of(first: u8) -> Span
     ensures span { IsSpan first result.len result.text_len }
     ensures less { 0 < result.len → result.text_len < result.len }
+    ensures most { result.len ≤ LONGEST_SPAN }
 {
     Span {
         len: usize::from(LENS[first as usize]),
@@ -215,6 +219,24 @@ fn string_len(bytes: &[u8]) -> usize
     }
 }
 
+/// Returns whether an item of these lengths is there from `at` on, and its text is ASCII; `false` says nothing.
+///
+/// If more bytes than the longest item are there, a short text takes no branch by the place. If the item is no text, the
+/// call looks at no byte.
+#[inline(always)]
+fn is_span_there(bytes: &[u8], at: usize, span: &Span) -> bool
+    requires some { at < length bytes.now }
+    requires less { span.now.text_len < span.now.len }
+    requires most { span.now.len ≤ LONGEST_SPAN }
+    ensures there { result ≡ true → at + span.now.len ≤ length bytes.now }
+    ensures ascii { result ≡ true → IsAscii (take span.now.text_len (drop (at + 1) bytes.now)) }
+{
+    if bytes.len() - at > LONGEST_SPAN && span.text_len <= SHORT {
+        return is_part_ascii(bytes, at + 1, 0, span.text_len);
+    }
+    span.len <= bytes.len() - at && is_ascii_from(bytes, at + 1, span.text_len)
+}
+
 /// Returns the length of the item from `at` on, title included, if an item is due and all of it is there: a number, a
 /// float, a simple value, or a string below 256 bytes; a text is ASCII.
 ///
@@ -230,14 +252,10 @@ fn plain_len(bytes: &[u8], at: usize, spelling: Spelling) -> usize
     if span.len == 0 {
         return string_len(&bytes[at..]);
     }
-    if span.len > bytes.len() - at {
-        return 0;
-    }
     if spelling.is_shortest() && bytes[at] % 32 >= LONGER {
         return 0;
     }
-    // If the item is no text, this looks at no byte.
-    if is_ascii_from(bytes, at + 1, span.text_len) {
+    if is_span_there(bytes, at, &span) {
         span.len
     } else {
         0
@@ -302,7 +320,7 @@ fn ascii_run(bytes: &[u8], most: usize, spelling: Spelling, offset: usize, place
 fn is_text(bytes: &[u8]) -> bool
     ensures { result ≡ true → s.Between ≡ after s.Between bytes.now }
 {
-    matches!(text_front(bytes, 0, State::Between).1, State::Between)
+    matches!(State::Between.run(bytes), State::Between)
 }
 
 /// Returns the length of the text at the start, title included, if its title has one byte. It is 0 if there is no text

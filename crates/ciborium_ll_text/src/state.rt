@@ -49,7 +49,7 @@ impl State {
 
     /// Returns the state after more bytes.
     #[inline(always)]
-    fn run(self, bytes: &[u8]) -> State
+    pub fn run(self, bytes: &[u8]) -> State
         ensures { result ≡ after self bytes.now }
     {
         if let State::Between = self

@@ -10,8 +10,8 @@ use Rattle.cbor_checker.proofs.plain.plain_len.Goals as goal
 use Rattle.cbor_checker.proofs.plain.plain_len.Goals.{else-is_shortest-via-then-is_shortest+else-bytes-at-ge-LONGER}
 use Rattle.cbor_checker.proofs.plain.plain_len.Goals.{else-is_shortest-via-else-is_shortest}
 
-pub returns-then-is_ascii_from-clause-plain : goal.returns-then-is_ascii_from-clause-plain
-returns-then-is_ascii_from-clause-plain c = λ more.
+pub returns-then-is_span_there-clause-plain : goal.returns-then-is_span_there-clause-plain
+returns-then-is_span_there-clause-plain c = λ more.
     let xs = c.args.bytes.now in
     let at = c.args.at in
     let rest : List ℕ = drop at xs in
@@ -28,5 +28,5 @@ returns-then-is_ascii_from-clause-plain c = λ more.
     ] in
     span_plain rest c.span_of-span.result.len c.span_of-span.result.text_len c.args.spelling below
     (omega (arith, long, c.requires.some)) (rw first c.span_of-span.ensures.span) more
-    (omega (arith, long, c.if-span-bytes.false)) any
-    (rw behind (ascii_stays _ (c.is_ascii_from.ensures c.if-is_ascii_from.true)))
+    (omega (arith, long, c.is_span_there.ensures.there c.if-is_span_there.true)) any
+    (rw behind (ascii_stays _ (c.is_span_there.ensures.ascii c.if-is_span_there.true)))
