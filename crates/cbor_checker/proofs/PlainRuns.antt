@@ -1,7 +1,7 @@
 -- Runs of plain items.
 use Rattle.ciborium_ll_grammar.specs.declared.spelling.Spelling.{Spelling}
 use Rattle.std.proofs.Common.{◌≡◌, Bool, ℕ, suc, ◌+◌, ◌-◌, ◌<◌, ◌≤◌, List, [], ◌++◌, length, take, drop, add-zero, arith}
-use Rattle.std.proofs.Common.{subst}
+use Rattle.std.proofs.Common.{refl, subst, zero}
 use Rattle.std.proofs.lemmas.List.{append-nil, append_assoc, length-append, length-take-le, take_rest}
 use Rattle.std.proofs.Math.Seq.{take-add}
 use Rattle.cbor_checker.specs.Plain.{ArePlain, more, none}
@@ -12,6 +12,18 @@ pub plain_none : (allowed : Spelling) (tags : Bool) (offset first most : ℕ)
 plain_none allowed tags offset first most =
     let no_items : 0 ≡ most - most = omega arith in
     subst (λ (z : ℕ). ArePlain allowed tags offset first z first []) no_items none
+
+-- The place after items of `at` bytes: `first` if there are none, otherwise the offset of the last item's title.
+abbrev pub place_after : ℕ → ℕ → ℕ → ℕ
+place_after first zero last = first
+place_after first (suc at) last = last
+
+pub place_some : (first at last : ℕ) → 0 < at → place_after first at last ≡ last
+place_some first zero last some = absurd (omega (arith, some))
+place_some first (suc at) last some = refl
+
+pub place_none : (first at last : ℕ) → at ≡ 0 → place_after first at last ≡ first
+place_none first at last none_is = rw none_is refl
 
 -- Plain items after plain items are plain items.
 pub plain_join : (allowed : Spelling) (tags : Bool) (offset first middle n : ℕ) (xs : List ℕ)

@@ -284,18 +284,19 @@ fn run_of(bytes: &[u8], most: usize, spelling: Spelling, offset: usize, place: &
 {
     let mut at = 0;
     let mut left = most;
-    let mut last = *place;
+    let mut last = 0;
     'items: while left > 0 && at < bytes.len() {
         let len = plain_len(bytes, at, spelling);
         if len == 0 {
-            *place = last;
-            return Run { len: at, left };
+            break 'items;
         }
-        last = offset + at;
+        last = at;
         at += len;
         left -= 1;
     }
-    *place = last;
+    if at > 0 {
+        *place = offset + last;
+    }
     Run { len: at, left }
 }
 
@@ -316,11 +317,11 @@ fn ascii_run(bytes: &[u8], most: usize, spelling: Spelling, offset: usize, place
     }
 }
 
-/// Returns whether these bytes are UTF-8 by themselves.
+/// Returns whether these bytes, which are probably not ASCII, are UTF-8 by themselves.
 fn is_text(bytes: &[u8]) -> bool
     ensures { result ≡ true → s.Between ≡ after s.Between bytes.now }
 {
-    matches!(State::Between.run(bytes), State::Between)
+    matches!(State::Between.run_other(bytes), State::Between)
 }
 
 /// Returns the length of the text at the start, title included, if its title has one byte. It is 0 if there is no text
@@ -404,7 +405,13 @@ fn tag_len(bytes: &[u8], at: usize, spelling: Spelling) -> usize
 /// Takes at most `most` items that [`plain_len`] measures, each with a tag or without, if a level is left for the tag.
 /// The `place` becomes the offset of the last item, after its tag.
 #[inline(never)]
-fn tagged_run(bytes: &[u8], most: usize, spelling: Spelling, offset: usize, place: &mut usize) -> Run
+fn tagged_run(
+    bytes: &[u8],
+    most: usize,
+    spelling: Spelling,
+    offset: usize,
+    place: &mut usize,
+) -> Run
     requires room { offset + length bytes.now ≤ usize.MAX }
     ensures within { result.len ≤ length bytes.now }
     ensures most { result.left ≤ most }
@@ -454,11 +461,51 @@ fn other_run(
     match bytes[0] / 32 {
         3 => text_run(bytes, most, offset, place),
         6 if tags => tagged_run(bytes, most, spelling, offset, place),
-        _ => Run {
-            len: 0,
-            left: most,
-        },
+        _ => Run { len: 0, left: most },
     }
+}
+
+/// Takes at most `most` items at the start, by [`other_run`] and [`ascii_run`] in turn. The `place` becomes the offset of
+/// the last item.
+#[inline(never)]
+fn other_runs(
+    bytes: &[u8],
+    most: usize,
+    spelling: Spelling,
+    tags: bool,
+    offset: usize,
+    place: &mut usize,
+) -> Run
+    requires room { offset + length bytes.now ≤ usize.MAX }
+    ensures within { result.len ≤ length bytes.now }
+    ensures most { result.left ≤ most }
+    ensures some { result.left < most → 0 < result.len }
+    ensures plain { ArePlain spelling tags offset place.old (most - result.left) place.new
+        (take result.len bytes.now) }
+{
+    let mut run = Run { len: 0, left: most };
+    'runs: while run.left > 0 && run.len < bytes.len() {
+        let rest = &bytes[run.len..];
+        let others = other_run(rest, run.left, spelling, tags, offset + run.len, place);
+        if others.len == 0 {
+            break 'runs;
+        }
+        let at = run.len + others.len;
+        let items = ascii_run(&bytes[at..], others.left, spelling, offset + at, place);
+        run = Run {
+            len: at + items.len,
+            left: items.left,
+        };
+    }
+    run
+}
+
+/// Returns whether the title of a text or of a tag begins at `at`.
+#[inline(always)]
+fn begins_other(bytes: &[u8], at: usize) -> bool
+    ensures { result ≡ true → at < length bytes.now }
+{
+    at < bytes.len() && matches!(bytes[at] / 32, 3 | 6)
 }
 
 /// Takes at most `most` items that [`plain_len`] measures and texts of up to 255 bytes, if an item is due at `offset`.
@@ -482,19 +529,14 @@ pub(crate) fn plain_run(
     ensures plain { ArePlain spelling tags offset place.old (most - result.left) place.new
         (take result.len bytes.now) }
 {
-    let mut run = ascii_run(bytes, most, spelling, offset, place);
-    'runs: while run.left > 0 && run.len < bytes.len() {
-        let rest = &bytes[run.len..];
-        let others = other_run(rest, run.left, spelling, tags, offset + run.len, place);
-        if others.len == 0 {
-            break 'runs;
-        }
-        let at = run.len + others.len;
-        let items = ascii_run(&bytes[at..], others.left, spelling, offset + at, place);
-        run = Run {
-            len: at + items.len,
-            left: items.left,
-        };
+    let run = ascii_run(bytes, most, spelling, offset, place);
+    if run.left == 0 || !begins_other(bytes, run.len) {
+        return run;
     }
-    run
+    let rest = &bytes[run.len..];
+    let others = other_runs(rest, run.left, spelling, tags, offset + run.len, place);
+    Run {
+        len: run.len + others.len,
+        left: others.left,
+    }
 }

@@ -49,7 +49,7 @@ impl State {
 
     /// Returns the state after more bytes.
     #[inline(always)]
-    pub fn run(self, bytes: &[u8]) -> State
+    fn run(self, bytes: &[u8]) -> State
         ensures { result ≡ after self bytes.now }
     {
         if let State::Between = self
@@ -57,6 +57,14 @@ impl State {
         {
             return State::Between;
         }
+        self.run_other(bytes)
+    }
+
+    /// Returns the state after more bytes, which are probably not ASCII. The call does not ask for that first.
+    #[inline(always)]
+    pub fn run_other(self, bytes: &[u8]) -> State
+        ensures { result ≡ after self bytes.now }
+    {
         if bytes.len() < LEAST_LEN {
             return self.run_rows(bytes);
         }

@@ -1,5 +1,6 @@
-use Rattle.std.proofs.Common.{Bool, ◌<◌, ◌≤◌, ◌-◌, take, length}
+use Rattle.std.proofs.Common.{◌+◌, Bool, ◌<◌, ◌≤◌, ◌-◌, take, length}
 use Rattle.cbor_checker.specs.Plain.{ArePlain}
+use Rattle.cbor_checker.proofs.PlainRuns.{place_after}
 use Rattle.cbor_checker.proofs.plain.run_of.Given as goal
 
 abbrev pub invariant-items : goal.invariant-items
@@ -8,8 +9,9 @@ invariant-items l =
       within : l.at ≤ length l.bytes;
       most : l.left ≤ l.most;
       some : l.left < l.most → 0 < l.at;
-      plain : (tags : Bool)
-          → ArePlain l.spelling tags l.offset l.fn.place (l.most - l.left) l.last (take l.at l.bytes);
+      last : l.last ≤ l.at;
+      plain : (tags : Bool) → ArePlain l.spelling tags l.offset l.fn.place (l.most - l.left)
+          (place_after l.fn.place l.at (l.offset + l.last)) (take l.at l.bytes);
     }
 
 abbrev pub decreases-items : goal.decreases-items

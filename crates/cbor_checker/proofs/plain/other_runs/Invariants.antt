@@ -1,6 +1,6 @@
 use Rattle.std.proofs.Common.{◌-◌, ◌<◌, ◌≤◌, take, length}
 use Rattle.cbor_checker.specs.Plain.{ArePlain}
-use Rattle.cbor_checker.proofs.plain.plain_run.Given as goal
+use Rattle.cbor_checker.proofs.plain.other_runs.Given as goal
 
 abbrev pub invariant-runs : goal.invariant-runs
 invariant-runs l =
