@@ -7,6 +7,7 @@ ghost use Rattle.ciborium_ll_grammar.specs.Title.{waiting_len};
 use ciborium_ll_grammar::hdr::table::{Affix, row_of};
 use ciborium_ll_grammar::hdr::{Header, Minor, Title, shortest};
 use ciborium_ll_grammar::spelling::Spelling;
+use ciborium_ll_grammar::titles::minor_in;
 use ciborium_ll_io::io::{Failures, Read};
 
 /// Why a decoder failed.
@@ -64,6 +65,7 @@ impl<R: Read> From<R> for Decoder<R> {
 impl<R: Read> Decoder<R> {
     ghost use Rattle.std.specs.Prelude.{replicate, ℕ, ◌<◌, ◌^◌, ◌%◌, IsTrue, true, ◌↔◌, None, Some};
     ghost use Rattle.std.specs.Prelude.{Err, IfOk, MatchResult, IsErrOf, ◌/◌, ◌&&◌, if◌then◌else◌};
+    ghost use Rattle.std.specs.Prelude.{take, IfNone, IfSome};
     ghost use Rattle.ciborium_ll_grammar.specs.Title.{title_len, IsTitle};
     ghost use Rattle.ciborium_ll_grammar.specs.Parts.{IsParts, refused_when_strict, title_bytes};
     ghost use Rattle.ciborium_ll_grammar.specs.Spellings.{is_shortest};
@@ -242,8 +244,44 @@ impl<R: Read> Decoder<R> {
 
     /// Reads the affix that a first byte announces. The answer is `None` for a reserved minor, and for a number that a
     /// strict decoder refuses there.
+    ///
+    /// If the reader has eight bytes at hand, no branch depends on the length of the affix.
     #[inline(always)]
     fn minor(&mut self, affix: Affix, first: u8) -> Result<Option<Minor>, Error<R::Error>>
+        requires affix { IsAffix affix (first % 32) }
+        requires none_waits { waiting_of self.old ≡ None }
+        ensures minor { ReadsMinor R.Read first self.old result self.new }
+        ensures moves_on { MovesOn R.Read self.old self.new }
+    {
+        if let Affix::Reserved = affix {
+            return Ok(None);
+        }
+        match self.at_hand(affix.len()) {
+            Some(bytes) => Ok(self.taken(minor_in(affix, first, bytes), first)),
+            None => self.read_minor(affix, first),
+        }
+    }
+
+    /// Returns the next eight bytes and reads `count` of them, if the reader has eight bytes at hand.
+    #[inline(always)]
+    fn at_hand(&mut self, count: usize) -> Option<[u8; 8]>
+        requires count { count ≤ 8 }
+        requires none_waits { waiting_of self.old ≡ None }
+        ensures bytes { IfSome result (λ bytes. ReadsAll R.Read self.old (take count bytes) self.new) }
+        ensures none { IfNone result (self.new ≡ self.old) }
+        ensures moves_on { MovesOn R.Read self.old self.new }
+    {
+        if count > usize::MAX - self.offset {
+            return None;
+        }
+        let bytes = self.reader.read_at_hand(count)?;
+        self.offset += count;
+        Some(bytes)
+    }
+
+    /// Reads the affix as [`Decoder::minor`] does, by one read for it alone.
+    #[inline(always)]
+    fn read_minor(&mut self, affix: Affix, first: u8) -> Result<Option<Minor>, Error<R::Error>>
         requires affix { IsAffix affix (first % 32) }
         requires none_waits { waiting_of self.old ≡ None }
         ensures minor { ReadsMinor R.Read first self.old result self.new }

@@ -1,12 +1,13 @@
 //! Titles whose bytes are all in memory, for checkers, copiers and views.
 
 ghost use Rattle.std.specs.Prelude.{◌≡◌, ◌+◌, ◌++◌, ◌%◌, ◌<◌, ◌≤◌, IfSome, IfNone, MatchOption, length, slice_index};
-ghost use Rattle.std.specs.Prelude.{true, false};
+ghost use Rattle.std.specs.Prelude.{true, false, take, ◌≢◌, ◌/◌, ◌^◌};
 ghost use Rattle.std.specs.Int.{to_be_bytes, w16, w32, w64};
 ghost use Rattle.ciborium_ll_grammar.specs.Title.{BeginsRefused, HasFirstTitle, HasNoTitle, IsCutTitle, IsReserved};
 ghost use Rattle.ciborium_ll_grammar.specs.Title.{IsTitle, affix_len};
 ghost use Rattle.ciborium_ll_grammar.specs.Parts.{IsMinor, IsParts, minor_affix, minor_code, title_bytes};
 ghost use Rattle.ciborium_ll_grammar.specs.TitleRows.{IsAffix, IsTitleKind};
+ghost use Rattle.ciborium_ll_grammar.specs.declared.hdr.table.Affix.TheVariants as a;
 
 use crate::hdr::table::{Affix, TitleKind, row_of};
 use crate::hdr::{Header, Minor, Title};
@@ -40,6 +41,45 @@ fn minor_of(affix: Affix, first: u8, bytes: &[u8]) -> Option<Minor>
         Affix::Eight => Some(Minor::Eight(eight_bytes(bytes))),
         Affix::Open => Some(Minor::Open),
         Affix::Reserved => None,
+    }
+}
+
+/// How many of the 64 bits of eight bytes follow a number in front, for each variant of [`Affix`].
+const SHIFTS: [u32; 7] = [0, 56, 48, 32, 0, 0, 0];
+
+/// Returns the number of a first byte: its lower five bits, or the number in front of the eight bytes of `word`.
+#[inline(always)]
+fn number_in(affix: Affix, first: u8, word: u64) -> u64
+    ensures within { affix ≡ a.Within → result ≡ first % 32 }
+    ensures one { affix ≡ a.One → result ≡ word / 2 ^ 56 }
+    ensures two { affix ≡ a.Two → result ≡ word / 2 ^ 48 }
+    ensures four { affix ≡ a.Four → result ≡ word / 2 ^ 32 }
+    ensures eight { affix ≡ a.Eight → result ≡ word }
+{
+    let in_front = word >> SHIFTS[affix as usize];
+    let within = u64::from(first % 32);
+    if affix.len() > 0 { in_front } else { within }
+}
+
+/// Returns the minor of a first byte, with the number in its lower five bits or in front of the eight bytes.
+///
+/// No branch depends on the affix, since tables have the place of its number.
+#[inline(always)]
+pub fn minor_in(affix: Affix, first: u8, bytes: [u8; 8]) -> Minor
+    requires affix { IsAffix affix (first % 32) }
+    requires taken { affix ≢ a.Reserved }
+    ensures minor { IsMinor result }
+    ensures code { minor_code result ≡ first % 32 }
+    ensures affix { minor_affix result ≡ take (affix_len (first % 32)) bytes }
+{
+    let number = number_in(affix, first, u64::from_be_bytes(bytes));
+    match affix {
+        Affix::Within => Minor::Small(number),
+        Affix::One => Minor::One(number),
+        Affix::Two => Minor::Two(number),
+        Affix::Four => Minor::Four(number),
+        Affix::Eight => Minor::Eight(number),
+        Affix::Open | Affix::Reserved => Minor::Open,
     }
 }
 

@@ -2,7 +2,8 @@
 //!
 //! A contract speaks of bytes only if a reader or a writer tells them, which costs nothing at run time.
 
-ghost use Rattle.std.specs.Prelude.{◌≡◌, ℕ, ◌+◌, ◌<◌, List, Bool, length, IsTrue, IsSome, IfSome, OnOk, OnErr};
+ghost use Rattle.std.specs.Prelude.{◌≡◌, ℕ, ◌+◌, ◌<◌, ◌≤◌, List, Bool, length, take, IsTrue, IsSome, IfSome, IfNone};
+ghost use Rattle.std.specs.Prelude.{OnOk, OnErr};
 ghost use Rattle.std.specs.declared.option.Option.{Option};
 ghost use Rattle.std.specs.Io.KnownBytes.{Appends, Consumes};
 ghost use Rattle.ciborium_ll_io.specs.Transfer.{Shrinks, AppendsFront, Target};
@@ -47,6 +48,19 @@ pub trait Read {
         ensures kept { OnErr result (IsTrue (steady self.old) → ahead self.new ≡ ahead self.old) }
         ensures missing { OnErr result (IsTrue (steady self.old)
             → IfSome (ahead self.old) (λ bytes. length bytes < length «data».old)) };
+
+    /// Returns the next eight bytes and consumes `count` of them, if the reader has eight bytes at hand.
+    ///
+    /// `None` consumes nothing. By default a reader has no bytes at hand, and [`Read::read_exact`] gives them.
+    fn read_at_hand(&mut self, count: usize) -> Option<[u8; 8]>
+        requires { count ≤ 8 }
+        ensures bytes { IfSome result (λ bytes. Consumes (ahead self.old) (ahead self.new) (take count bytes)) }
+        ensures failures { failures self.new ≡ failures self.old }
+        ensures stays_steady { IsTrue (steady self.old) → IsTrue (steady self.new) }
+        ensures none { IfNone result (self.new ≡ self.old) }
+    {
+        None
+    }
 
     /// A steady reader tells its bytes.
     ghost steady_is_told: { (reader : Self) → IsTrue (steady reader) → IsSome (ahead reader) };

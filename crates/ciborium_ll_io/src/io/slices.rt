@@ -58,6 +58,13 @@ impl<'a> Read for SliceReader<'a> {
         self.left = rest;
         Ok(())
     }
+
+    #[inline(always)]
+    fn read_at_hand(&mut self, count: usize) -> Option<[u8; 8]> {
+        let bytes = *self.left.first_chunk::<8>()?;
+        self.left = &self.left[count..];
+        Some(bytes)
+    }
 }
 
 /// Copies all bytes.
