@@ -1,6 +1,7 @@
 //! Titles and their headers.
 
 ghost use Rattle.std.specs.Prelude.{ℕ, Option, ◌≡◌, ◌+◌, ◌*◌, ◌<◌, length, IfSome, IfNone, [], ◌∷◌};
+ghost use Rattle.std.specs.Prelude.{Some};
 ghost use Rattle.ciborium_ll_grammar.specs.Title.{IsInRange, IsTitle, IsNeverOpen, Major};
 ghost use Rattle.ciborium_ll_grammar.specs.Title.{least_size, minor_of, affix_of, shortest_title};
 ghost use Rattle.ciborium_ll_grammar.specs.Title.{title_len, shortest_with_length, major_code};
@@ -9,6 +10,7 @@ ghost use Rattle.ciborium_ll_grammar.specs.Parts.{minor_number, refused_when_str
 ghost use Rattle.ciborium_ll_grammar.specs.Parts.{parts_first, title_bytes};
 ghost use Rattle.ciborium_ll_grammar.specs.Elements.{IsPlain};
 ghost use Rattle.ciborium_ll_grammar.specs.TitleRows.{IsTitleKind};
+ghost use Rattle.ciborium_ll_grammar.specs.declared.hdr.table.TitleKind.TheVariants as k;
 
 mod start;
 pub mod table;
@@ -247,13 +249,10 @@ impl Title {
             return open_header(kind);
         };
         Some(match kind {
-            TitleKind::Positive => Header::Positive(n),
-            TitleKind::Negative => Header::Negative(n),
-            TitleKind::Bytes => Header::Bytes(Some(n as usize)),
-            TitleKind::Text => Header::Text(Some(n as usize)),
-            TitleKind::Array => Header::Array(Some(n as usize)),
-            TitleKind::Map => Header::Map(Some(n as usize)),
-            TitleKind::Tag => Header::Tag(n),
+            TitleKind::Positive | TitleKind::Negative | TitleKind::Tag => number_header(kind, n),
+            TitleKind::Bytes | TitleKind::Text | TitleKind::Array | TitleKind::Map => {
+                length_header(kind, n as usize)
+            }
             TitleKind::Other => other_header(self.minor),
             // A refused first byte has no number, so no title takes this arm. It has the body of the arm above, so it
             // needs no test.
@@ -296,6 +295,38 @@ impl Title {
             major: self.major,
             minor,
         }
+    }
+}
+
+/// Returns the header of an unsigned integer, a negative integer or a tag. They have the same shape, so a compiler
+/// looks the kind up without a branch.
+#[inline(always)]
+fn number_header(kind: TitleKind, n: u64) -> Header
+    ensures positive { kind ≡ k.Positive → result ≡ Header.Positive n }
+    ensures negative { kind ≡ k.Negative → result ≡ Header.Negative n }
+    ensures tag { kind ≡ k.Tag → result ≡ Header.Tag n }
+{
+    match kind {
+        TitleKind::Positive => Header::Positive(n),
+        TitleKind::Negative => Header::Negative(n),
+        _ => Header::Tag(n),
+    }
+}
+
+/// Returns the header of a string, an array or a map of this length. They have the same shape, so a compiler looks the
+/// kind up without a branch.
+#[inline(always)]
+fn length_header(kind: TitleKind, n: usize) -> Header
+    ensures bytes { kind ≡ k.Bytes → result ≡ Header.Bytes (Some n) }
+    ensures text { kind ≡ k.Text → result ≡ Header.Text (Some n) }
+    ensures array { kind ≡ k.Array → result ≡ Header.Array (Some n) }
+    ensures map { kind ≡ k.Map → result ≡ Header.Map (Some n) }
+{
+    match kind {
+        TitleKind::Bytes => Header::Bytes(Some(n)),
+        TitleKind::Text => Header::Text(Some(n)),
+        TitleKind::Array => Header::Array(Some(n)),
+        _ => Header::Map(Some(n)),
     }
 }
 
