@@ -1,7 +1,8 @@
 -- What a checker says of the bytes that it has read.
-use Rattle.std.proofs.Common.{◌≡◌, ℕ, ◌+◌, ◌-◌, ◌<◌, ◌≤◌, ◌^◌, ◌↔◌, true, false, List, [], ◌∷◌}
+use Rattle.std.proofs.Common.{◌≡◌, ℕ, ◌+◌, ◌-◌, ◌<◌, ◌≤◌, ◌^◌, ◌↔◌, true, false, ltb, List, [], ◌∷◌}
 use Rattle.std.proofs.Common.{◌++◌, length, take, drop, refl, sym, ap, subst, ◌∙◌, arith, append-nil, append_assoc}
 use Rattle.std.proofs.Common.{length-append, inl, inr}
+use borrow.Author.Tests.{lt-ltb}
 use Rattle.std.proofs.lemmas.Bool.{cases_lt}
 use Rattle.std.proofs.lemmas.List.{take-append-drop, take-append-le, length-take-le}
 use Rattle.std.proofs.Math.Nat.{eq-or-lt_of_le}
@@ -71,6 +72,11 @@ reads s d read piece feed new taken all long fed tells fits =
       tells = tells;
       fits = fits;
     }
+
+-- If more bytes are due, the call takes all bytes, since otherwise there are too many.
+pub all_taken : {More : Type 0} (n m : ℕ) → n ≤ m → (ltb n m ≡ true → More → ⊥) → More → n ≡ m
+all_taken n m within none due =
+    let whole : n < m → ⊥ = λ less. none (lt-ltb n m less) due in omega (arith, within, whole)
 
 -- ---- the answer of a spot
 

@@ -7,10 +7,13 @@ ghost use Rattle.cbor_checker.specs.Snapshots.{levels_in};
 ghost use Rattle.ciborium_ll_grammar.specs.declared.limits.TheConstants.{MOST_LEVELS};
 
 use crate::levels::copy_levels;
+use crate::phase::Phase;
 use crate::position::Position;
 use crate::progress::{End, Feed, Progress};
 use crate::snapshot::Snapshot;
 use crate::tell::answer;
+use cbor_parser::strings::Within;
+use ciborium_ll_grammar::few::Few;
 use ciborium_ll_grammar::limits::MOST_LEVELS;
 use ciborium_ll_grammar::spelling::Spelling;
 
@@ -65,7 +68,16 @@ impl Checker {
         ensures { HasRead spelling depth [] result }
     {
         Checker {
-            position: Position::of(spelling, depth),
+            position: Position {
+                spelling,
+                phase: Phase::Title,
+                front: Few::new(),
+                within: Within::Nothing,
+                depth,
+                nests: 0,
+                place: 0,
+                offset: 0,
+            },
             kinds: [0; MOST_LEVELS],
             counts: [0; MOST_LEVELS],
         }
@@ -122,7 +134,11 @@ impl Checker {
         ensures stays { (progress : Progress) → Answers self.old progress → (IsMore progress → ⊥)
             → (result.taken ≡ 0) × (result.progress ≡ progress) × Answers self.new progress }
     {
-        self.position.feed(&mut self.kinds, &mut self.counts, bytes)
+        let taken = self.position.take(&mut self.kinds, &mut self.counts, bytes);
+        Feed {
+            taken,
+            progress: self.position.tell(taken < bytes.len()),
+        }
     }
 
     /// Writes the state into `snapshot` as plain numbers, for [`Checker::load`] and [`Checker::restore`]. It writes the
@@ -152,9 +168,10 @@ impl Checker {
         ensures found { HoldsSome snapshot.now → result ≡ true }
         ensures none { result ≡ false → self.new ≡ self.old }
     {
-        if !self.position.load(snapshot) {
+        let Some(position) = Position::restore(snapshot) else {
             return false;
-        }
+        };
+        self.position = position;
         self.kinds = snapshot.kinds; // All of them, so that none need be written before.
         self.counts = snapshot.counts;
         true
@@ -169,11 +186,10 @@ impl Checker {
         ensures some { IfSome result (λ checker. Saves checker snapshot.now) }
         ensures found { HoldsSome snapshot.now → IsSome result }
     {
-        let mut checker = Checker::new(0);
-        if checker.load(snapshot) {
-            Some(checker)
-        } else {
-            None
-        }
+        Some(Checker {
+            position: Position::restore(snapshot)?,
+            kinds: snapshot.kinds,
+            counts: snapshot.counts,
+        })
     }
 }

@@ -1,7 +1,7 @@
 //! A checker's state without the numbers of its nests.
 
 ghost use Rattle.ciborium_ll_grammar.specs.declared.spelling.Spelling.{Spelling};
-ghost use Rattle.std.specs.Prelude.{◌≡◌, ◌+◌, ◌<◌, ◌≤◌, ◌%◌, length, slice_index, true, false, IsSome};
+ghost use Rattle.std.specs.Prelude.{◌≡◌, ◌+◌, ◌<◌, ◌≤◌, ◌%◌, length, slice_index, true, false, IfSome, IsSome, IsSomeAnd};
 ghost use Rattle.ciborium_ll_grammar.specs.Title.{affix_len};
 ghost use Rattle.cbor_parser.specs.Strings.{open_count};
 ghost use Rattle.cbor_checker.specs.Snapshots.{levels_in};
@@ -10,7 +10,7 @@ ghost use Rattle.ciborium_ll_grammar.specs.declared.limits.TheConstants.{MOST_LE
 
 use crate::levels::{Levels, are_levels};
 use crate::phase::Phase;
-use crate::progress::{Feed, Progress};
+use crate::progress::Progress;
 use crate::snapshot::{Snapshot, is_state};
 use crate::tell::answer;
 use crate::walk::Walk;
@@ -42,30 +42,11 @@ impl Position {
     ghost use Rattle.cbor_checker.specs.Places.{spot_in};
     ghost use Rattle.cbor_checker.specs.Snapshots.{Holds};
     ghost use Rattle.cbor_checker.specs.Spots.{Spot};
-    ghost use Rattle.cbor_checker.specs.Steps.{IsFed, start};
+    ghost use Rattle.cbor_checker.specs.Steps.{IsFed};
     ghost use Rattle.cbor_checker.specs.Reading.{IsMore, Tells};
     ghost use Rattle.cbor_checker.specs.Telling.{IsAnswer, is_due};
     ghost use Rattle.cbor_checker.specs.declared.progress.Progress.TheVariants as r;
     ghost use Rattle.ciborium_ll_grammar.specs.declared.limits.TheConstants.{MOST_LEVELS};
-
-    /// Returns the position of a checker before its first byte.
-    #[inline(always)]
-    pub(crate) fn of(spelling: Spelling, depth: usize) -> Position
-        requires { depth ≤ MOST_LEVELS }
-        ensures spot { (kinds counts : List ℕ) → spot_in result kinds counts ≡ start spelling depth }
-        ensures none { result.nests ≡ 0 }
-    {
-        Position {
-            spelling,
-            phase: Phase::Title,
-            front: Few::new(),
-            within: Within::Nothing,
-            depth,
-            nests: 0,
-            place: 0,
-            offset: 0,
-        }
-    }
 
     /// Writes the state into `snapshot`, without the numbers of nests.
     #[inline(always)]
@@ -91,80 +72,40 @@ impl Position {
         snapshot.text = text;
     }
 
-    /// Becomes the position of the checker that `snapshot` holds, and returns whether there is one. If the numbers are
-    /// those of no checker, the position stays as it was.
+    /// Returns the position of the checker that `snapshot` holds, or `None` if the numbers are those of no checker.
     #[inline(always)]
-    pub(crate) fn load(&mut self, snapshot: &Snapshot) -> bool
-        ensures some { result ≡ true
-            → Holds snapshot.now (spot_in self.new snapshot.now.kinds snapshot.now.counts) }
-        ensures known { result ≡ true → IsSome (levels_in self.new.nests snapshot.now.kinds snapshot.now.counts) }
-        ensures found { (spot : Spot) → Holds snapshot.now spot → result ≡ true }
-        ensures same { (spot : Spot) → Holds snapshot.now spot
-            → spot_in self.new snapshot.now.kinds snapshot.now.counts ≡ spot }
-        ensures none { result ≡ false → self.new ≡ self.old }
+    pub(crate) fn restore(snapshot: &Snapshot) -> Option<Position>
+        ensures some { IfSome result (λ position. Holds snapshot.now (spot_in position snapshot.now.kinds
+            snapshot.now.counts)) }
+        ensures known { IfSome result (λ position. IsSome (levels_in position.nests snapshot.now.kinds
+            snapshot.now.counts)) }
+        ensures found { (spot : Spot) → Holds snapshot.now spot
+            → IsSomeAnd result (λ position. spot_in position snapshot.now.kinds snapshot.now.counts ≡ spot) }
     {
-        let Some(phase) = Phase::of(snapshot.phase, snapshot.number as usize, snapshot.text) else {
-            return false;
-        };
-        let Some(within) = Within::of(snapshot.strings, snapshot.more as usize) else {
-            return false;
-        };
-        let Some(spelling) = spelling_of(snapshot.strict) else {
-            return false;
-        };
+        let phase = Phase::of(snapshot.phase, snapshot.number as usize, snapshot.text)?;
+        let within = Within::of(snapshot.strings, snapshot.more as usize)?;
+        let spelling = spelling_of(snapshot.strict)?;
         if !is_state(snapshot, phase, within) {
-            return false;
+            return None;
         }
         let nests = usize::from(snapshot.nests);
         if !are_levels(nests, &snapshot.kinds, &snapshot.counts) {
-            return false;
+            return None;
         }
-        self.spelling = spelling;
-        self.phase = phase;
-        self.front
-            .load(&snapshot.title, usize::from(snapshot.title_len));
-        self.within = within;
-        self.depth = snapshot.depth as usize;
-        self.nests = nests;
-        self.place = snapshot.place as usize;
-        self.offset = snapshot.offset as usize;
-        true
+        Some(Position {
+            spelling,
+            phase,
+            front: Few::restore(&snapshot.title, usize::from(snapshot.title_len)),
+            within,
+            depth: snapshot.depth as usize,
+            nests,
+            place: snapshot.place as usize,
+            offset: snapshot.offset as usize,
+        })
     }
 
-    /// Feeds a piece to the checker at this position, as [`Checker::feed`](crate::Checker::feed) does. The call changes
-    /// the numbers of its nests in place.
-    #[inline(always)]
-    pub(crate) fn feed(
-        &mut self,
-        kinds: &mut [u8; MOST_LEVELS],
-        counts: &mut [u64; MOST_LEVELS],
-        bytes: &[u8],
-    ) -> Feed
-        requires { IsSome (levels_in self.old.nests kinds.old counts.old) }
-        ensures known { IsSome (levels_in self.new.nests kinds.new counts.new) }
-        ensures taken { result.taken ≤ length bytes.now }
-        ensures all { IsMore result.progress → result.taken ≡ length bytes.now }
-        ensures long { result.progress ≡ r.TooLong → result.taken < length bytes.now }
-        ensures fed { (allowed : Spelling) (depth : ℕ) (fed : List ℕ) → IsFed allowed depth fed
-            (spot_in self.old kinds.old counts.old)
-            → IsFed allowed depth (fed ++ take result.taken bytes.now) (spot_in self.new kinds.new counts.new) }
-        ensures tells { (allowed : Spelling) (depth : ℕ) (fed : List ℕ) → IsFed allowed depth fed
-            (spot_in self.old kinds.old counts.old)
-            → Tells allowed depth (fed ++ take result.taken bytes.now) result.progress }
-        ensures counted { (allowed : Spelling) (depth : ℕ) (fed : List ℕ) → IsFed allowed depth fed
-            (spot_in self.old kinds.old counts.old)
-            → length fed + result.taken ≤ usize.MAX }
-        ensures answers { IsAnswer result.progress (spot_in self.new kinds.new counts.new) }
-        ensures stays { is_due self.old.phase ≡ false → (result.taken ≡ 0) × (spot_in self.new kinds.new counts.new ≡ spot_in self.old kinds.old counts.old) }
-    {
-        let taken = self.take(kinds, counts, bytes);
-        Feed {
-            taken,
-            progress: self.tell(taken < bytes.len()),
-        }
-    }
-
-    /// Does what [`Position::feed`] does, but returns only how many bytes it took.
+    /// Takes a piece, as [`Checker::feed`](crate::Checker::feed) does, and returns how many bytes it took. The call
+    /// changes the numbers of its nests in place.
     #[inline(always)]
     pub(crate) fn take(
         &mut self,

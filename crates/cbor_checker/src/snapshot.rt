@@ -11,7 +11,6 @@ use crate::position::Position;
 use crate::progress::Feed;
 use cbor_parser::strings::Within;
 use ciborium_ll_grammar::limits::{LONGEST_TITLE, MOST_LEVELS};
-use ciborium_ll_grammar::spelling::Spelling;
 use ciborium_ll_grammar::titles::are_begun;
 
 /// The state of a [`Checker`](crate::Checker) as plain numbers in the caller's memory, for a program in C or one that
@@ -109,10 +108,7 @@ impl Snapshot {
             → (IsMore progress → ⊥) → IfSome result (λ feed. (feed.taken ≡ 0) × (feed.progress ≡ progress)) }
         ensures none { IfNone result (self.new ≡ self.old) }
     {
-        let mut position = Position::of(Spelling::Any, 0);
-        if !position.load(self) {
-            return None;
-        }
+        let mut position = Position::restore(self)?;
         let taken = position.take(&mut self.kinds, &mut self.counts, bytes);
         position.save(self);
         Some(Feed {

@@ -1,29 +1,21 @@
-use Rattle.std.proofs.Common.{◌≡◌, ◌∙◌, ℕ, ◌<◌, ◌≤◌, true, ltb, ap, arith, rules, subst, sym}
-use borrow.Author.Tests.{lt-ltb}
+use Rattle.std.proofs.Common.{◌∙◌, ap, arith, rules, subst, sym}
 use Rattle.cbor_checker.specs.Checking.{Answers, HasRead, HoldsSome, Keeps, Saves, spot_of}
 use Rattle.cbor_checker.specs.Places.{spot_in}
 use Rattle.cbor_checker.specs.Spots.{Spot}
 use Rattle.cbor_checker.specs.Steps.{IsFed}
 use Rattle.cbor_checker.specs.Telling.{is_due, IsAnswer}
 use Rattle.cbor_checker.proofs.OneSpot.{one_spot}
-use Rattle.cbor_checker.proofs.ReadLaws.{answer_stays, answers_piece, off_at, reads}
+use Rattle.cbor_checker.proofs.ReadLaws.{all_taken, answer_stays, answers_piece, off_at, reads}
 use Rattle.cbor_checker.proofs.snapshot.Snapshot.feed.Goals as goal
 
--- If more bytes are due, the call takes all bytes, since otherwise there are too many.
-all_taken : {More : Type 0} (n m : ℕ) → n ≤ m → (ltb n m ≡ true → More → ⊥) → More → n ≡ m
-all_taken n m within none more =
-    let whole : n < m → ⊥ = λ less. none (lt-ltb n m less) more in omega (arith, within, whole)
-
-pub returns-then-not-load-clause-read : goal.returns-then-not-load-clause-read
+pub returns-in_err-position-clause-read : goal.returns-in_err-position-clause-read
 unfolding Keeps
-returns-then-not-load-clause-read c = λ allowed depth read keeps.
-    let (old, is, holds) = keeps in
-    let both = sym c.if-not-load.true ∙ c.load.ensures.found old holds in absurd cc
+returns-in_err-position-clause-read c = λ allowed depth read keeps.
+    let (old, is, holds) = keeps in absurd (c.in_err-position.ensures.found old holds)
 
-pub returns-then-not-load-clause-found : goal.returns-then-not-load-clause-found
+pub returns-in_err-position-clause-found : goal.returns-in_err-position-clause-found
 unfolding HoldsSome
-returns-then-not-load-clause-found c = λ holds.
-    let both = sym c.if-not-load.true ∙ c.load.ensures.found holds.0 holds.1 in absurd cc
+returns-in_err-position-clause-found c = λ holds. absurd (c.in_err-position.ensures.found holds.0 holds.1)
 
 pub returns-clause-all : goal.returns-clause-all
 returns-clause-all c = all_taken _ _ c.take-taken.ensures.taken c.tell.ensures.all
@@ -34,14 +26,14 @@ returns-clause-long c = λ is. search (rules, c.tell.ensures.long is)
 pub returns-clause-some : goal.returns-clause-some
 unfolding HoldsSome
 returns-clause-some c = (
-  (_, c.load.ensures.some (search rules)),
+  (_, c.in_ok-position.ensures.some),
   (_, c.save.ensures.holds c.take-taken.ensures.known),
 )
 
 pub returns-clause-stays : goal.returns-clause-stays
 unfolding Answers Saves
 returns-clause-stays c = λ checker progress holds is none.
-    let same = c.load.ensures.same (spot_of checker) holds in
+    let same = c.in_ok-position.ensures.found (spot_of checker) holds in
     let kinds = c.take-taken.new.kinds in
     let counts = c.take-taken.new.counts in
     let new : Spot = spot_in c.take-taken.new.self kinds counts in
@@ -56,7 +48,7 @@ pub returns-clause-read : goal.returns-clause-read
 unfolding Keeps
 returns-clause-read c = λ allowed depth read keeps.
     let (old, is, holds) = keeps in
-    let was = subst (IsFed allowed depth read) (sym (c.load.ensures.same old holds)) is in
+    let was = subst (IsFed allowed depth read) (sym (c.in_ok-position.ensures.found old holds)) is in
     let taken = c.take-taken.ensures in
     let kinds = c.take-taken.new.kinds in
     let counts = c.take-taken.new.counts in
@@ -72,7 +64,7 @@ pub returns-clause-is : goal.returns-clause-is
 unfolding HasRead Keeps
 returns-clause-is c = λ allowed depth read keeps checker has_read.
     let (old, is, holds) = keeps in
-    let was = subst (IsFed allowed depth read) (sym (c.load.ensures.same old holds)) is in
+    let was = subst (IsFed allowed depth read) (sym (c.in_ok-position.ensures.found old holds)) is in
     let kinds = c.take-taken.new.kinds in
     let counts = c.take-taken.new.counts in
     let new : Spot = spot_in c.take-taken.new.self kinds counts in
