@@ -51,35 +51,8 @@ fn group_len(bytes: &[u8], title: &[u8], size: usize, spelling: Spelling, depth:
     }
 }
 
-/// Takes at most `most` whole items in groups of `size` items, as long as the bytes go on with a group.
-fn run_of(
-    bytes: &[u8],
-    title: &[u8],
-    size: usize,
-    most: usize,
-    spelling: Spelling,
-    depth: usize,
-) -> Run
-    requires shallow { depth ≤ MOST_LEVELS }
-    requires title { title.now ≡ shortest_title (Array (Some size)) }
-    ensures within { result.len ≤ length bytes.now }
-    ensures most { result.count ≤ most }
-    ensures items { AreItems spelling depth result.count (take result.len bytes.now) }
-{
-    let mut at = 0;
-    let mut count = 0;
-    'groups: while size <= most - count && at < bytes.len() {
-        let len = group_len(&bytes[at..], title, size, spelling, depth);
-        if len == 0 {
-            return Run { len: at, count };
-        }
-        at += len;
-        count += size;
-    }
-    Run { len: at, count }
-}
-
-/// Takes at most `most - run.count` more whole items after a run of items.
+/// Takes groups of `size` more items after a run of items, as long as the bytes go on with a group. The run then has
+/// at most `most` items.
 fn more_items(
     run: Run,
     bytes: &[u8],
@@ -98,18 +71,16 @@ fn more_items(
     ensures most { result.count ≤ most }
     ensures items { AreItems spelling depth result.count (take result.len bytes.now) }
 {
-    let more = run_of(
-        &bytes[run.len..],
-        title,
-        size,
-        most - run.count,
-        spelling,
-        depth,
-    );
-    Run {
-        len: run.len + more.len,
-        count: run.count + more.count,
+    let mut run = run;
+    'groups: while size <= most - run.count && run.len < bytes.len() {
+        let len = group_len(&bytes[run.len..], title, size, spelling, depth);
+        if len == 0 {
+            return run;
+        }
+        run.len += len;
+        run.count += size;
     }
+    run
 }
 
 /// Takes at most `most` whole items, as long as the bytes go on with one: 64 at a time, then eight, then one.
@@ -119,7 +90,8 @@ pub(crate) fn whole_items(bytes: &[u8], most: usize, spelling: Spelling, depth: 
     ensures most { result.count ≤ most }
     ensures items { AreItems spelling depth result.count (take result.len bytes.now) }
 {
-    let many = run_of(bytes, &MANY, 64, most, spelling, depth);
+    let none = Run { len: 0, count: 0 };
+    let many = more_items(none, bytes, &MANY, 64, most, spelling, depth);
     let few = more_items(many, bytes, &FEW, 8, most, spelling, depth);
     more_items(few, bytes, &ONE, 1, most, spelling, depth)
 }
