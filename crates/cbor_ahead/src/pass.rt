@@ -1,41 +1,19 @@
 //! Items that the buffer of a reader holds.
 
-ghost use Rattle.std.specs.Prelude.{◌≡◌, ◌+◌, ◌≤◌, None, length, take};
+ghost use Rattle.std.specs.Prelude.{◌≤◌};
 ghost use Rattle.std.specs.Io.KnownBytes.{Consumes};
 ghost use Rattle.ciborium_ll_grammar.specs.declared.limits.TheConstants.{MOST_LEVELS};
-ghost use Rattle.ciborium_ll_decoder.specs.declared.dec.Decoder.{Decoder as AnyDecoder};
-ghost use Rattle.ciborium_ll_decoder.specs.Decoding.{ReadsPast, offset_of, reader_of, spelling_of, waiting_of};
-ghost use Rattle.ciborium_ll_streams.specs.declared.buffered.BufferedReader.{BufferedReader as AnyReader};
 ghost use Rattle.ciborium_ll_streams.specs.Buffers.{buffered_ahead, buffered_read_ahead, buffered_read_failures};
 ghost use Rattle.cbor_skip.specs.Skipping.{ReadsCounted};
 
 use crate::groups::whole_items;
 use ciborium_ll_decoder::dec::Decoder;
-use ciborium_ll_grammar::spelling::Spelling;
 use ciborium_ll_io::io::Read;
 use ciborium_ll_streams::BufferedReader;
 use std::io;
 
 /// A length of a reader's buffer that serves well.
 pub const AHEAD: usize = 65536;
-
-/// Makes a decoder at this offset, and consumes bytes that its reader has read ahead.
-fn decoder_behind<'a, T: io::Read>(
-    reader: BufferedReader<'a, T>,
-    len: usize,
-    spelling: Spelling,
-    offset: usize,
-) -> Decoder<BufferedReader<'a, T>>
-    requires there { len ≤ length (buffered_read_ahead reader) }
-    requires fits { offset + len ≤ usize.MAX }
-    ensures { (old : AnyDecoder (AnyReader T)) → waiting_of old ≡ None → reader_of old ≡ reader.entry
-        → offset_of old ≡ offset → spelling_of old ≡ spelling
-        → ReadsPast ⟦<BufferedReader<'a, T> as Read>⟧ old (take len (buffered_read_ahead reader.entry)) result }
-{
-    let mut reader = reader;
-    reader.consume(len);
-    Decoder::with_spelling(reader, spelling, offset + len)
-}
 
 /// Skips at most `most` items that the reader has read ahead, as long as it holds whole ones, and returns how many
 /// these were. It reads nothing.
@@ -59,10 +37,11 @@ pub fn pass_items<'a, T: io::Read>(
     let mut decoder = decoder;
     let offset = decoder.offset();
     let spelling = decoder.spelling();
-    let reader = decoder.into_inner();
+    let mut reader = decoder.into_inner();
     let ahead = reader.buffer();
     let room = ahead.len().min(usize::MAX - offset);
     let run = whole_items(&ahead[..room], most, spelling, depth);
-    let passed = decoder_behind(reader, run.len, spelling, offset);
+    reader.consume(run.len);
+    let passed = Decoder::with_spelling(reader, spelling, offset + run.len);
     (passed, run.count)
 }

@@ -1,6 +1,8 @@
-use Rattle.std.proofs.Common.{◌≡◌, List, None, ℕ, sym, subst}
+use Rattle.std.proofs.Common.{rules, take, ◌≡◌, List, None, ℕ, sym, subst}
 use Rattle.ciborium_ll_grammar.specs.Items.{AreItems}
-use Rattle.ciborium_ll_decoder.specs.Decoding.{spelling_of}
+use Rattle.ciborium_ll_decoder.specs.Decoding.{ReadsPast, spelling_of}
+use Rattle.ciborium_ll_streams.specs.contracts.buffered.BufferedReaderRead.TheImpl.{ghosts}
+use Rattle.ciborium_ll_streams.specs.Buffers.{buffered_read_ahead}
 use Rattle.cbor_ahead.proofs.PassLaws.{front_taken, none_counted, none_waits, passes_items}
 use Rattle.cbor_ahead.proofs.pass.pass_items.Goals as goal
 
@@ -19,10 +21,11 @@ returns-clause-reads g c =
     rw c.offset-offset.ensures.same at c.spelling-spelling.ensures in
     let reader : old.reader ≡ c.into_inner-reader.result =
     sym (rw c.offset-offset.ensures.same at c.into_inner-reader.ensures) in
-    let passed =
-    c.decoder_behind-passed.ensures old none reader (sym c.offset-offset.ensures.value) (sym spelling) in
+    let front_of_buffer = take len (buffered_read_ahead c.into_inner-reader.result) in
+    let passed : ReadsPast (ghosts g.row.T g.T.Read g.T.Read-dict) old front_of_buffer c.with_spelling-passed.result =
+    search rules in
     let front = front_taken len c.min-room.result ahead c.whole_items-run.ensures.within in
     let items = subst (λ (z : List ℕ). AreItems c.spelling-spelling.result c.args.depth count z) front
     c.whole_items-run.ensures.items in
-    passes_items _ old c.decoder_behind-passed.result c.args.depth count _ none
+    passes_items _ old c.with_spelling-passed.result c.args.depth count _ none
     (rw (spelling, c.buffer-ahead.ensures) at items) passed
