@@ -7,7 +7,7 @@ ghost use Rattle.ciborium_ll_grammar.specs.Items.{AreItems};
 ghost use Rattle.ciborium_ll_grammar.specs.Title.{shortest_title};
 
 use cbor_checker::{Checker, Progress};
-use ciborium_ll_grammar::limits::MOST_LEVELS;
+use ciborium_ll_grammar::limits::{LONGEST_TITLE, MOST_LEVELS};
 use ciborium_ll_grammar::spelling::Spelling;
 
 /// The shortest title of an array of 64 items.
@@ -83,7 +83,8 @@ fn more_items(
     run
 }
 
-/// Takes at most `most` whole items, as long as the bytes go on with one: 64 at a time, then eight, then one.
+/// Takes at most `most` whole items, as long as the bytes go on with one: 64 at a time, then eight, then one. It takes
+/// none of a few bytes, since a checker is slower to make than their titles are to read.
 pub(crate) fn whole_items(bytes: &[u8], most: usize, spelling: Spelling, depth: usize) -> Run
     requires { depth ≤ MOST_LEVELS }
     ensures within { result.len ≤ length bytes.now }
@@ -91,6 +92,9 @@ pub(crate) fn whole_items(bytes: &[u8], most: usize, spelling: Spelling, depth: 
     ensures items { AreItems spelling depth result.count (take result.len bytes.now) }
 {
     let none = Run { len: 0, count: 0 };
+    if bytes.len() <= LONGEST_TITLE {
+        return none;
+    }
     let many = more_items(none, bytes, &MANY, 64, most, spelling, depth);
     let few = more_items(many, bytes, &FEW, 8, most, spelling, depth);
     more_items(few, bytes, &ONE, 1, most, spelling, depth)
