@@ -1,6 +1,6 @@
 //! Checkers that a program in C keeps in memory of its own.
 
-ghost use Rattle.std.specs.Prelude.{◌≡◌, ◌≤◌, Bool, ℕ, List, true};
+ghost use Rattle.std.specs.Prelude.{◌≡◌, ◌≤◌, ℕ, List, IfSome, IsSomeAnd};
 ghost use Rattle.cbor_checker.specs.Checking.{HasRead};
 ghost use Rattle.capi.specs.declared.answer.CllAnswer.TheVariants as a;
 ghost use Rattle.capi.specs.Answers.{Reports};
@@ -30,15 +30,19 @@ pub struct CllChecker {
 const _: () = prove!(size_of::<CllChecker>() == 2368);
 
 impl CllChecker {
-    /// Makes `checker` the one that this memory holds, and says whether it holds one.
+    /// Returns the checker that this memory holds, if it holds one.
     #[inline(always)]
     #[tactic(auto, using(crate::proofs::CheckerLaws::is_checker))]
-    fn load_into(&self, checker: &mut Checker) -> bool
+    fn restored(&self) -> Option<Checker>
+        ensures some { IfSome result (λ checker. IsChecker self.now) }
         ensures kept { (allowed : Spelling) (depth : ℕ) (read : List ℕ) → IsKept allowed depth read self.now
-            → (result ≡ true) × HasRead allowed depth read checker.new }
-        ensures some { result ≡ true → IsChecker self.now }
+            → IsSomeAnd result (λ checker. HasRead allowed depth read checker) }
     {
-        self.mark == MARK && checker.load(&self.state)
+        if self.mark == MARK {
+            Checker::restore(&self.state)
+        } else {
+            None
+        }
     }
 }
 
@@ -115,11 +119,10 @@ pub(crate) fn end(checker: &CllChecker, report: &mut CllReport) -> CllAnswer
         → EndsFed allowed depth read result report.new }
     ensures argument { IsNoChecker checker.now → (result ≡ a.Argument) × Reports report.new 0 0 0 }
 {
-    let mut restored = Checker::new(0);
-    if !checker.load_into(&mut restored) {
+    let Some(restored) = checker.restored() else {
         report.say(0, 0, 0);
         return CllAnswer::Argument;
-    }
+    };
     let (told, number) = told_end(restored.end());
     report.say(0, 0, number);
     told
