@@ -427,8 +427,11 @@ fn skip_or_due(bytes: &[u8], depth: usize, report: &mut CllReport) -> CllAnswer
     ensures exactly { result ≡ a.Ok ↔ BeginsWithItem Any depth bytes.now }
     ensures due { result ≡ a.Short → ItemLacks Any depth bytes.now report.new.place }
 {
-    // A checker finds a whole item faster, since it takes items in runs. Only the skip tells a fault and its place.
-    if let Some(len) = item_len(bytes, depth) {
+    // A checker finds a whole item faster, since it takes items in runs, but it is slower to make than a few bytes are
+    // to skip. Only the skip tells a fault and its place.
+    if bytes.len() > LONGEST_TITLE
+        && let Some(len) = item_len(bytes, depth)
+    {
         report.say(len, 0, 0);
         return CllAnswer::Ok;
     }

@@ -4,8 +4,8 @@ use Rattle.capi.proofs.skip_or_due.Goals as goal
 pub returns-in-Short-clause-due : goal.returns-in-Short-clause-due
 returns-in-Short-clause-due c = λ same. c.due_behind.ensures
 
-pub returns-in-Some-clause-skipped : goal.returns-in-Some-clause-skipped
-returns-in-Some-clause-skipped c =
+pub returns-clause-skipped : goal.returns-clause-skipped
+returns-clause-skipped c =
     let said = c.say.ensures in (
       c.in-Some.ensures.0,
       record {
@@ -18,5 +18,5 @@ returns-in-Some-clause-skipped c =
       },
     )
 
-pub returns-in-Some-clause-exactly : goal.returns-in-Some-clause-exactly
-returns-in-Some-clause-exactly c = (λ same. c.in-Some.ensures.0, λ front. refl)
+pub returns-clause-exactly : goal.returns-clause-exactly
+returns-clause-exactly c = (λ same. c.in-Some.ensures.0, λ front. refl)
