@@ -18,9 +18,3 @@ loop-sent-preserved g c =
           (Appends-trans _ _ _ _ _ kept.bytes c.in-Ok.ensures.bytes);
       empty = search rules;
     }
-
-pub returns-in-Ok-eq0-clause-ok : goal.returns-in-Ok-eq0-clause-ok
-returns-in-Ok-eq0-clause-ok g c = search rules
-
-pub returns-in-Err-clause-bytes : goal.returns-in-Err-clause-bytes
-returns-in-Err-clause-bytes g c = search rules

@@ -3,24 +3,11 @@ use Rattle.std.proofs.KnownBytes.{Keeps-refl}
 use Rattle.std.proofs.lemmas.List.{take_at}
 use Rattle.std.specs.Io.KnownBytes.{Consumes, Keeps}
 use Rattle.ciborium_ll_streams.specs.Buffers.{buffered_ahead}
-use Rattle.ciborium_ll_streams.proofs.BufferLaws.{kept_Consumes, no_bytes, prepend_known-filled, prepend_known-kept}
-use Rattle.ciborium_ll_streams.proofs.BufferLaws.{prepend_known-none, prepend_known-taken}
+use Rattle.ciborium_ll_streams.proofs.BufferLaws.{kept_Consumes, no_bytes, prepend_known-filled}
+use Rattle.ciborium_ll_streams.proofs.BufferLaws.{prepend_known-taken}
 use Rattle.ciborium_ll_streams.proofs.buffered.BufferedReader.read_part.Goals.{else-len-eq0}
 use Rattle.ciborium_ll_streams.proofs.buffered.BufferedReader.read_part.Goals.{then-len-eq0+else-capacity-data+in-Ok}
 use Rattle.ciborium_ll_streams.proofs.buffered.BufferedReader.read_part.Goals as goal
-
-pub returns-in-Ok-eq0-clause-keeps : goal.returns-in-Ok-eq0-clause-keeps
-returns-in-Ok-eq0-clause-keeps g c = rw c.failed.ensures.ahead (prepend_known-filled _ _ _ _
-    (no_bytes _ (sym c.len.ensures ∙ c.if-len-eq0.true)) c.in-Ok-eq0.ensures.bytes)
-
-pub returns-in-Ok-eq0-clause-end : goal.returns-in-Ok-eq0-clause-end
-returns-in-Ok-eq0-clause-end g c = λ _. rw c.failed.ensures.ahead (prepend_known-none _ _
-    (no_bytes _ (sym c.in-Ok-eq0.ensures.count ∙ c.in-Ok-eq0.field-0-test))
-    (c.in-Ok-eq0.ensures.end c.in-Ok-eq0.field-0-test))
-
-pub returns-in-Err-clause-keeps : goal.returns-in-Err-clause-keeps
-returns-in-Err-clause-keeps g c = rw c.failed-in-Err.ensures.ahead (prepend_known-kept _ _ _ _
-    (no_bytes _ (sym c.len.ensures ∙ c.if-len-eq0.true)) c.in-Err.ensures.err c.in-Err.ensures.keeps)
 
 pub returns-clause-bytes : goal.returns-clause-bytes
 returns-clause-bytes g c =

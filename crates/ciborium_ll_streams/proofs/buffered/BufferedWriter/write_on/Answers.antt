@@ -1,4 +1,4 @@
-use Rattle.std.proofs.Common.{arith, rules, subst, ◌∙◌}
+use Rattle.std.proofs.Common.{arith, subst, ◌∙◌}
 use Rattle.std.proofs.lemmas.List.{take_all}
 use Rattle.std.specs.Io.KnownBytes.{Appends}
 use Rattle.ciborium_ll_streams.proofs.BufferLaws.{all_gone, append_known-sent, kept_Appends}
@@ -22,6 +22,3 @@ returns-in_default-Err-clause-rest g c = record {
   rest = all_gone _ _ (c.failed.ensures.kept_back ∙ c.in_ok-send.ensures.empty);
   space = omega (arith, c.failed.ensures.space, c.in_ok-send.ensures.whole, c.send.ensures.capacity);
 }
-
-pub returns-in_default-Ok-clause-alone : goal.returns-in_default-Ok-clause-alone
-returns-in_default-Ok-clause-alone g c = search rules

@@ -1,5 +1,0 @@
-use Rattle.std.proofs.Common.{rules}
-use Rattle.ciborium_ll_streams.proofs.buffered.BufferedReader.into_parts.Goals as goal
-
-pub returns-clause-source : goal.returns-clause-source
-returns-clause-source g c = search rules
