@@ -1,5 +1,5 @@
 -- The number of bytes that may end a text in a state.
-use Rattle.std.proofs.Common.{◌≡◌, ℕ, suc, ◌+◌, ◌≤◌, true, List, [], ◌∷◌, length, refl, subst, arith, le-leb}
+use Rattle.std.proofs.Common.{◌≡◌, ℕ, suc, ◌+◌, ◌≤◌, true, List, [], ◌∷◌, length, refl, arith, le-leb}
 use Rattle.std.proofs.lemmas.Bool.Decides.{nat_tests}
 use Rattle.ciborium_ll_text.specs.declared.state.State.{State}
 use Rattle.ciborium_ll_text.specs.declared.state.State.TheVariants as s
