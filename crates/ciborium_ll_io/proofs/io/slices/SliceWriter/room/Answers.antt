@@ -1,5 +1,0 @@
-use Rattle.std.proofs.Common.{rules}
-use Rattle.ciborium_ll_io.proofs.io.slices.SliceWriter.room.Goals as goal
-
-pub returns : goal.returns
-returns c = search rules
