@@ -5,15 +5,11 @@ use Rattle.ciborium_ll_grammar.specs.declared.hdr.Header.{Header}
 use Rattle.ciborium_ll_grammar.specs.declared.hdr.Header.TheVariants as h
 use Rattle.ciborium_ll_grammar.specs.declared.hdr.Float.TheVariants as f
 use Rattle.ciborium_ll_grammar.specs.Title.{Major, Unsigned, Negative, ByteString, TextString, Array, Map, Tag, Other}
-use Rattle.ciborium_ll_grammar.specs.Title.{major_code, first_byte, Size, Two, Four, Eight, size_limit, minor_of}
+use Rattle.ciborium_ll_grammar.specs.Title.{first_byte, Size, Two, Four, Eight, size_limit, minor_of}
 use Rattle.ciborium_ll_grammar.specs.Title.{numbered_title, numbered_header, open_header, IsTitle, numbered, alone}
 use Rattle.ciborium_ll_grammar.specs.Title.{least_size, shortest_title, IsInRange, BeginsRefused}
 
 -- ---- first bytes
-
--- Two major types with the same code are the same.
-pub same_major : (m m' : Major) → major_code m ≡ major_code m' → m ≡ m'
-same_major m m' e = grind arith
 
 -- The minor of a number is below 28.
 pub minor_below : (s : Size) (n : ℕ) → n < size_limit s → minor_of s n < 28

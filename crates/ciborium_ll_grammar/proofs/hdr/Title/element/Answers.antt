@@ -1,4 +1,4 @@
-use Rattle.std.proofs.Common.{◌≡◌, ◌∙◌, ap, rules}
+use Rattle.std.proofs.Common.{◌≡◌, ◌∙◌, ap}
 use Rattle.ciborium_ll_grammar.specs.declared.hdr.Header.TheVariants as h
 use Rattle.ciborium_ll_grammar.specs.Parts.{minor_number}
 use Rattle.ciborium_ll_grammar.proofs.PartsLaws.{bytes_parts, text_parts}
@@ -13,6 +13,3 @@ pub returns-in-3-clause-text : goal.returns-in-3-clause-text
 returns-in-3-clause-text c = λ header length title e.
     let same : minor_number c.args.self.minor ≡ length = cc in
     text_parts c.args.self.minor header c.requires.minor (rw c.in-3.is at title) ∙ ap h.Text same
-
-pub returns-in-3-clause-bytes : goal.returns-in-3-clause-bytes
-returns-in-3-clause-bytes c = search rules
