@@ -1,13 +1,9 @@
 -- The number of bytes that may end a text in a state.
-use Rattle.std.proofs.Common.{◌≡◌, ℕ, suc, ◌+◌, ◌≤◌, true, List, [], ◌∷◌, length, refl, arith, le-leb}
+use Rattle.std.proofs.Common.{◌≡◌, ℕ, suc, ◌+◌, true, List, [], ◌∷◌, length, refl, arith, le-leb}
 use Rattle.std.proofs.lemmas.Bool.Decides.{nat_tests}
 use Rattle.ciborium_ll_text.specs.declared.state.State.{State}
 use Rattle.ciborium_ll_text.specs.declared.state.State.TheVariants as s
-use Rattle.ciborium_ll_text.specs.States.{is_from, after_first, after_next, after, after_byte, tail_due, may_end}
-
--- A text that may end is not damaged.
-pub not_damaged : (state : State) (n : ℕ) → may_end state n ≡ true → state ≡ s.Damaged → ⊥
-not_damaged state n may e = grind arith
+use Rattle.ciborium_ll_text.specs.States.{is_from, after_first, after_next, after, after_byte, may_end}
 
 -- A text that may end `n` bytes after the next byte may end `n + 1` bytes from here.
 pub one_more_due : (state : State) (b n : ℕ) → may_end (after_byte state b) n ≡ true → may_end state (suc n) ≡ true
@@ -29,7 +25,3 @@ pub may_back : (xs : List ℕ) (state : State) (left k : ℕ) → k ≡ length x
 may_back [] state left k e may = let same : left ≡ k = omega (arith, e) in rw same at may
 may_back (x ∷ xs) state left k e may =
     grind (arith, nat_tests, one_more_due, may_back xs (after_byte state x) left (length xs + left) refl may)
-
--- A text may end only after at least as many bytes as are due.
-pub tail_fits : (state : State) (n : ℕ) → may_end state n ≡ true → tail_due state ≤ n
-tail_fits state n may = grind (arith, nat_tests)
