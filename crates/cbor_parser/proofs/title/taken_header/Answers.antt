@@ -1,4 +1,4 @@
-use Rattle.std.proofs.Common.{rules, inl, sym, ◌∙◌}
+use Rattle.std.proofs.Common.{rules, sym, ◌∙◌}
 use Rattle.ciborium_ll_grammar.proofs.SpellingLaws.{any_allowed, only_shortest}
 use Rattle.cbor_parser.proofs.TakenLaws.{longer_title, none_means, some_taken}
 use Rattle.cbor_parser.proofs.title.taken_header.Goals as goal
@@ -25,6 +25,3 @@ pub returns-clause-none : goal.returns-clause-none
 returns-clause-none c =
     none_means _ _ c.in_ok-title.title.major c.in_ok-title.title.minor _ c.in_ok-title.ensures.bytes
     c.header.ensures.none
-
-pub returns-in_err-title-clause-none : goal.returns-in_err-title-clause-none
-returns-in_err-title-clause-none c = rw c.from_residual.ensures (inl c.in_err-title.ensures.none)
