@@ -6,6 +6,7 @@ ghost use Rattle.ciborium_ll_text.specs.Text.{IsCharacters};
 ghost use Rattle.ciborium_ll_text.specs.Cuts.{IsCut, IsFullCut};
 
 /// A text has exactly one full cut, and no cut has fewer members.
+#[tactic(auto, using(ciborium_ll_text::proofs::CutLaws::fewest, ciborium_ll_text::proofs::CutLaws::one_full, ciborium_ll_text::proofs::FullCutLaws::full_cut))]
 pub fn full_cuts()
     ensures exists { (text : List ℕ) (limit : ℕ) → IsCharacters text → LEAST_BUFFER ≤ limit
         → (members : List (List ℕ)) × IsFullCut text limit members }

@@ -4,6 +4,7 @@ ghost use Rattle.std.specs.Prelude.{◌≡◌, ◌≤◌, ℕ, ◌++◌, List, l
 ghost use Rattle.ciborium_ll_grammar.specs.Elements.{Mark, IsElement, IsRun, spelling};
 
 /// No element begins another, and each has one list of marks.
+#[tactic(auto, using(ciborium_ll_grammar::proofs::ElementLaws::one_element))]
 pub fn one_element()
     ensures { (element other rest more : List ℕ) (marks others : List Mark) → IsElement element marks
         → IsElement other others
@@ -11,6 +12,7 @@ pub fn one_element()
 {}
 
 /// Bytes begin with at most one run of `count` elements, with one list of marks.
+#[tactic(auto, using(ciborium_ll_grammar::proofs::ElementLaws::one_run))]
 pub fn one_run()
     ensures { (count : ℕ) (run other rest more : List ℕ) (marks others : List Mark) → IsRun count run marks
         → IsRun count other others
@@ -18,6 +20,7 @@ pub fn one_run()
 {}
 
 /// A run's spelling is a run of the same marks, and no longer.
+#[tactic(auto, using(ciborium_ll_grammar::proofs::ElementLaws::run_again))]
 pub fn spelled_run()
     ensures again { (count : ℕ) (run : List ℕ) (marks : List Mark) → IsRun count run marks
         → IsRun count (spelling marks) marks }

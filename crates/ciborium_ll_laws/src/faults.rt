@@ -25,6 +25,7 @@ pub fn one_fault()
 {}
 
 /// Any bytes begin with `count` elements, or have a fault. By [`no_fault`] they never have both.
+#[tactic(auto, using(crate::proofs::Complete::complete))]
 pub fn run_or_fault()
     ensures { (allowed : Spelling) (count : ℕ) (bytes : List ℕ) → AreBytes bytes
         → BeginsWithElements allowed count bytes ⊎ HasFault allowed count bytes }

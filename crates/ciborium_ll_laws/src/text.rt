@@ -10,6 +10,7 @@ ghost use Rattle.ciborium_ll_text.specs.declared.state.State.TheVariants.{Betwee
 use simdutf8::compat;
 
 /// Bytes are text exactly if they are UTF-8 for std.
+#[tactic(auto, using(ciborium_ll_text::proofs::Utf8Laws::to_std, ciborium_ll_text::proofs::Utf8Laws::from_std))]
 pub fn same_text()
     ensures { (bytes : List ℕ) → (IsCharacters bytes ↔ IsUtf8 bytes) }
 {}
@@ -59,6 +60,7 @@ pub fn no_rest_of_text()
 {}
 
 /// Bytes are text exactly if they lead to `Between`.
+#[tactic(auto, using(ciborium_ll_text::proofs::StateLaws::text_ends, ciborium_ll_text::proofs::StateLaws::text_from))]
 pub fn text_by_state()
     ensures { (bytes : List ℕ) → (IsCharacters bytes ↔ (after Between bytes ≡ Between)) }
 {}

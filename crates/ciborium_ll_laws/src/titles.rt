@@ -9,6 +9,7 @@ ghost use Rattle.ciborium_ll_grammar.specs.Title.{IsTitle, shortest_title, IsInR
 ghost use Rattle.ciborium_ll_grammar.specs.Title.{IsCutTitle, AreBytes, refused_bytes};
 
 /// No title begins another, and each has one header.
+#[tactic(auto, using(ciborium_ll_grammar::proofs::TitleLaws::one_title))]
 pub fn one_title()
     ensures { (title other rest more : List ℕ) (header another : Header) → IsTitle title header → IsTitle other another
         → title ++ rest ≡ other ++ more → (title ≡ other) × (header ≡ another) × (rest ≡ more) }
@@ -33,6 +34,7 @@ pub fn title_length()
 {}
 
 /// Exactly 27 of the 256 bytes begin no title.
+#[tactic(auto, using(ciborium_ll_grammar::proofs::AffixLaws::refused_begins_none, ciborium_ll_grammar::proofs::AffixLaws::refused_or_begins, crate::proofs::RefusedBytes::refused_listed, crate::proofs::RefusedBytes::refused_ascend))]
 pub fn refused_first_bytes()
     ensures none { (byte : ℕ) (rest : List ℕ) (header : Header) → IsRefused byte → IsTitle (byte ∷ rest) header → ⊥ }
     ensures others { (byte : ℕ) → byte < 256
