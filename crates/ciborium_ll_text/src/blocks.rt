@@ -70,6 +70,7 @@ fn excess(bytes: u8x16, others: u8x16) -> u8x16
 
 /// Tells if sixteen bytes are 0. A no says nothing.
 #[inline(always)]
+#[tactic(auto, using(crate::proofs::BlockLaws::zero_of_mask))]
 fn is_zero(block: u8x16) -> bool
     ensures { IsTrue result → (i : ℕ) → slice_index block i ≡ 0 }
 {

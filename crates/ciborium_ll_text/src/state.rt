@@ -49,6 +49,7 @@ impl State {
 
     /// Returns the state after more bytes.
     #[inline(always)]
+    #[tactic(auto, using(crate::proofs::StateLaws::ascii_stays))]
     fn run(self, bytes: &[u8]) -> State
         ensures { result ≡ after self bytes.now }
     {
@@ -178,6 +179,7 @@ fn behind_window(x: u8, y: u8, z: u8) -> State
 
 /// Reads a text's bytes once more, and returns them as a `&str`.
 #[inline(always)]
+#[tactic(auto, using(crate::proofs::Utf8Laws::to_std))]
 pub fn text_of(bytes: &[u8]) -> &str
     requires { IsCharacters bytes.now }
     ensures { result.now ≡ bytes.now }
@@ -206,6 +208,7 @@ pub fn text_front(bytes: &[u8], kept: usize, state: State) -> (&[u8], State)
 
 /// Returns whether the bytes are UTF-8 (Unicode, Table 3-7).
 #[inline(always)]
+#[tactic(auto, using(crate::proofs::FrontLaws::text_told))]
 pub fn is_text(bytes: &[u8]) -> bool
     ensures { IsTrue result ↔ IsCharacters bytes.now }
 {
