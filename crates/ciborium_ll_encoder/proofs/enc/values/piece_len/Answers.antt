@@ -1,4 +1,4 @@
-use Rattle.std.proofs.Common.{◌<◌, arith, rules}
+use Rattle.std.proofs.Common.{◌<◌, arith}
 use Rattle.std.specs.Str.{IsCharBoundary}
 use Rattle.ciborium_ll_encoder.proofs.PieceLaws.{at_no_tail, near_limit, past_tail, some_within}
 use Rattle.ciborium_ll_encoder.proofs.enc.values.piece_len.Goals as goal
@@ -23,9 +23,6 @@ overflow_sub-len c = some_left c
 pub shorter-smaller : goal.shorter-smaller
 shorter-smaller c = omega (arith, some_left c)
 
-pub returns-clause-boundary : goal.returns-clause-boundary
-returns-clause-boundary c = boundary c
-
 pub returns-clause-some : goal.returns-clause-some
 returns-clause-some c =
     some_within c.args.limit c.args.text.now c.shorter.len c.utf8.text (omega arith) c.requires.four
@@ -34,6 +31,3 @@ returns-clause-some c =
 pub returns-clause-back : goal.returns-clause-back
 returns-clause-back c =
     near_limit c.utf8.text (boundary c) c.shorter.invariant.longest c.shorter.invariant.within c.requires.longer
-
-pub shorter-init : goal.shorter-init
-shorter-init c = search rules
