@@ -9,6 +9,3 @@ returns-in-Some g c = rw c.in-Some.is (record {
       c.finish_body.new.decoder c.finish_body.result (search rules) c.finish_body.ensures.finishes;
   moves_on = c.finish_body.ensures.moves_on;
 })
-
-pub returns-in-None : goal.returns-in-None
-returns-in-None g c = search rules

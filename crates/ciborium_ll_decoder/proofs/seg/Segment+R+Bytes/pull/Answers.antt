@@ -19,6 +19,3 @@ returns g c =
       split = (sym (ap (λ z. z ++ read) none), none);
       still_sound = c.if-self.false;
     }) refl c.in_ok-read.ensures.moves_on
-
-pub returns-in_err-read : goal.returns-in_err-read
-returns-in_err-read g c = search rules

@@ -165,19 +165,3 @@ returns-in_err-fill-clause-rest g c =
     no_chunk c.from_residual-in_err-fill.result c.in_err-fill.field-0.0 _ c.from_residual-in_err-fill.ensures.1
 
 -- ---- facts that each pull keeps
-
-pub returns-in-Some-clause-same_reference : goal.returns-in-Some-clause-same_reference
-returns-in-Some-clause-same_reference g c = c.fill.ensures.same_reference
-
-pub returns-in-Some-clause-moves_on : goal.returns-in-Some-clause-moves_on
-returns-in-Some-clause-moves_on g c = c.fill.ensures.moves_on
-
-pub returns-in-None-clause-same_reference : goal.returns-in-None-clause-same_reference
-returns-in-None-clause-same_reference g c =
-    c.damage-in-None.ensures.same_reference ∙ c.fill.ensures.same_reference
-
-pub returns-in-None-clause-moves_on : goal.returns-in-None-clause-moves_on
-returns-in-None-clause-moves_on g c = rw c.damage-in-None.ensures.same c.fill.ensures.moves_on
-
-pub returns-in-Nothing : goal.returns-in-Nothing
-returns-in-Nothing g c = search rules

@@ -63,6 +63,3 @@ returns-in-Some g c =
           rw c.in-Open.is at c.titles.invariant.opens in omega (arith, counted, c.in_ok-body.ensures.opens);
       moves_on = MovesOn-then g.R.Read _ _ _ c.titles.invariant.moves_on c.in_ok-body.ensures.moves_on;
     }
-
-pub returns-in-Damaged : goal.returns-in-Damaged
-returns-in-Damaged g c = search rules

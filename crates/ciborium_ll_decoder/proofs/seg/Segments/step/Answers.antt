@@ -1,4 +1,4 @@
-use Rattle.std.proofs.Common.{rules, ap, arith, Result, Ok, Err, OnOk}
+use Rattle.std.proofs.Common.{ap, arith, Result, Ok, Err, OnOk}
 use Rattle.ciborium_ll_grammar.proofs.AloneLaws.{title_some}
 use Rattle.ciborium_ll_decoder.specs.Decoding.{offset_of}
 use Rattle.ciborium_ll_decoder.proofs.seg.Segments.step.Goals as goal
@@ -21,12 +21,3 @@ returns-clause-goes_on g c =
     let same = ap offset_of c.offset-place.ensures.same in
     let some = title_some pulled.title c.in-Ok.header pulled.is_title in
     on_ok c.found_by-progress.result.1 (omega (arith, pulled.offset, same, some))
-
-pub returns-in-Err-clause-mode : goal.returns-in-Err-clause-mode
-returns-in-Err-clause-mode g c = search rules
-
-pub returns-clause-steps : goal.returns-clause-steps
-returns-clause-steps g c = search rules
-
-pub invariant_of-self-2 : goal.invariant_of-self-2
-invariant_of-self-2 g c = search rules

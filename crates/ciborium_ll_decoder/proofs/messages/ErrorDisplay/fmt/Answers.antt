@@ -1,5 +1,0 @@
-use Rattle.std.proofs.Common.{rules}
-use Rattle.ciborium_ll_decoder.proofs.messages.ErrorDisplay.fmt.Goals as goal
-
-pub returns-in-Syntax-clause-writes : goal.returns-in-Syntax-clause-writes
-returns-in-Syntax-clause-writes g c = search rules

@@ -1,5 +1,0 @@
-use Rattle.std.proofs.Common.{rules}
-use Rattle.ciborium_ll_decoder.proofs.seg.Segments.copy.Goals as goal
-
-pub returns : goal.returns
-returns g c = search rules
