@@ -16,7 +16,7 @@ use Rattle.ciborium_ll_decoder.specs.Kept.{kept_bytes}
 use Rattle.ciborium_ll_decoder.specs.Decoding.{IsSteady}
 use Rattle.ciborium_ll_io.specs.Writes.{WritesAll}
 use Rattle.ciborium_ll_decoder.specs.Chunks.{IsSplit, GivesChunk, left_of}
-use Rattle.ciborium_ll.specs.Drains.{gains, DrainsEach, DrainsUpTo, DrainsSome, none, more}
+use Rattle.ciborium_ll.specs.Drains.{DrainsEach, DrainsUpTo, DrainsSome, none, more}
 use Rattle.ciborium_ll_decoder.proofs.DecodingLaws.{ReadsPast-none}
 use Rattle.ciborium_ll_text.proofs.Lists.{length_zero}
 use Rattle.ciborium_ll_io.proofs.WriteLaws.{WritesBytes-then}

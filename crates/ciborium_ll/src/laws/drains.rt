@@ -67,6 +67,7 @@ fn drain<R: Read, W: Write, P: Chunked>(
 ///
 /// This is the body's length divided by `size`, or for text by `size - 3`, rounded up. For example 10 calls with
 /// buffers of 4 bytes read a text of 10 bytes.
+#[tactic(auto, using(crate::proofs::DrainTold::calls_enough))]
 pub fn enough_sizes()
     ensures { (kind : Kind) (size bytes : ℕ) (sizes : List ℕ) → most_kept kind < size
         → All (λ other. size ≤ other) sizes
@@ -77,6 +78,7 @@ pub fn enough_sizes()
 ///
 /// The bytes kept of the body before, followed by the bytes read, are the bytes written, followed by the bytes kept
 /// after. Each buffer was filled as far as the body reaches. No size was used after sizes that were enough.
+#[tactic(auto, using(crate::proofs::DrainLaws::each_some))]
 pub fn drained_in_all<R: Read, W: Write, P: Chunked>()
     ensures { (sizes : List ℕ) (old new : AnySegment R P P.Parser) (writer writer' : W)
         → DrainsEach R.Read W.Write sizes old writer new writer'

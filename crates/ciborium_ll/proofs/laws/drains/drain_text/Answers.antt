@@ -1,9 +1,6 @@
-use Rattle.std.proofs.Common.{rules, refl}
+use Rattle.std.proofs.Common.{refl}
 use Rattle.ciborium_ll.proofs.DrainTold.{drains_told, text_exactly}
 use Rattle.ciborium_ll.proofs.laws.drains.drain_text.Goals as goal
-
-pub returns-clause-drains : goal.returns-clause-drains
-returns-clause-drains g c = search rules
 
 pub returns-clause-told : goal.returns-clause-told
 returns-clause-told g c = λ body written ready.
