@@ -15,12 +15,6 @@ returns-in_err-_header g c =
       target = refl;
     }
 
-pub copy_string-requires-clause-none_waits : goal.copy_string-requires-clause-none_waits
-copy_string-requires-clause-none_waits g c = search rules
-
-pub copy_string-requires-in-Text-clause-none_waits : goal.copy_string-requires-in-Text-clause-none_waits
-copy_string-requires-in-Text-clause-none_waits g c = search rules
-
 pub copy_string-requires-clause-covered : goal.copy_string-requires-clause-covered
 copy_string-requires-clause-covered g c =
     let arm = c.in-Bytes in

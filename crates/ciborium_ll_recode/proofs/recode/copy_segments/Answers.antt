@@ -119,16 +119,3 @@ returns-in_err-copy-clause-copied g c = λ count before old within.
     (sides_of c.copy.new.self.decoder.now c.copy.new.writer) error titled stops))
 
 -- ---- the writer stays on its slice
-
-pub returns-clause-target : goal.returns-clause-target
-returns-clause-target g c = c.segments.invariant.target
-
-pub returns-in_err-body-clause-target : goal.returns-in_err-body-clause-target
-returns-in_err-body-clause-target g c = c.segments.invariant.target
-
-pub returns-in_err-write_header-clause-target : goal.returns-in_err-write_header-clause-target
-returns-in_err-write_header-clause-target g c = c.write_header.ensures.target ∙ c.segments.invariant.target
-
-pub returns-in_err-copy-clause-target : goal.returns-in_err-copy-clause-target
-returns-in_err-copy-clause-target g c =
-    c.copy.ensures.target ∙ (c.write_header.ensures.target ∙ c.segments.invariant.target)

@@ -24,6 +24,3 @@ returns-in-Err-clause-none c = λ front.
     }) in
     let held = rw c.in-Err.is at (exact.1 front) in
     absurd cc
-
-pub returns-in-Ok-clause-none : goal.returns-in-Ok-clause-none
-returns-in-Ok-clause-none c = search rules
