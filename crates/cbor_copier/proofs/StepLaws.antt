@@ -4,10 +4,8 @@ use Rattle.std.proofs.Common.{length, take, drop, refl, sym, ap, subst, ◌∙�
 use Rattle.std.proofs.Common.{length-append, length-take-le, take-append-drop}
 use Rattle.std.proofs.Math.Seq.{take-append-add}
 use Rattle.ciborium_ll_grammar.specs.declared.spelling.Spelling.{Spelling}
-use Rattle.ciborium_ll_grammar.specs.declared.spelling.Spelling.TheVariants.{Shortest}
 use Rattle.ciborium_ll_grammar.specs.declared.hdr.Header.{Header}
 use Rattle.ciborium_ll_grammar.specs.Title.{IsTitle, IsCutTitle, BeginsRefused, AreBytes, affix_len}
-use Rattle.ciborium_ll_grammar.specs.Items.{IsTakenTitle}
 use Rattle.ciborium_ll_grammar.specs.Strings.{IsWritable}
 use Rattle.ciborium_ll_grammar.specs.Elements.{Mark, spelling, done}
 use Rattle.ciborium_ll_grammar.specs.Faults.{BodyDue, Reaches, body, body_inside, IsAtTitle, Syntax, with_front}
@@ -33,7 +31,7 @@ use Rattle.cbor_parser.specs.Strings.{kind_of}
 use Rattle.cbor_parser.specs.Titles.{NoneTaken, SomeTaken}
 use Rattle.cbor_copier.specs.Spots.{Spot, putting, body_due}
 use Rattle.cbor_copier.specs.Steps.{title_place, with_byte, TitleStep, cut, early, whole, none, start, with_char}
-use Rattle.cbor_copier.specs.Steps.{char_put, text_left, byte_put, StepIn, IsFed, fresh, more, Faults, titled}
+use Rattle.cbor_copier.specs.Steps.{char_put, text_left, byte_put, StepIn, IsFed, fresh, more, titled}
 use Rattle.cbor_copier.proofs.EnterLaws.{reaches, breaks, some_due, misplaced_fault, title_leads, body_leads, due_leads}
 use Rattle.cbor_copier.proofs.EnterLaws.{Spelled, here_spelled, here_tight, taken_strictly}
 use Rattle.cbor_copier.proofs.KeptLaws.{body_kept, enters, steps}

@@ -50,7 +50,7 @@ use Rattle.cbor_copier.proofs.KeptLaws.{step_early, step_cut}
 use Rattle.cbor_copier.proofs.EnterLaws.{reaches, comes_at, here_spelled}
 use Rattle.cbor_copier.proofs.LiveLaws.{holds_goes}
 use Rattle.cbor_copier.proofs.Reached.{place_of, FrontAt, Here, Begun, HoldsIn}
-use Rattle.cbor_copier.proofs.StepLaws.{at_title, body_reached, body_tight, fed_allowed, fed_counts, fed_holds}
+use Rattle.cbor_copier.proofs.StepLaws.{at_title, body_reached, body_tight, fed_counts, fed_holds}
 use Rattle.cbor_copier.proofs.StepLaws.{front_bytes}
 
 -- ---- the bytes end too early

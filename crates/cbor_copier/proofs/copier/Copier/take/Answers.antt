@@ -80,12 +80,6 @@ pieces-init c =
       stays = search rules;
     }
 
-pub returns-clause-copied : goal.returns-clause-copied
-returns-clause-copied c = search rules
-
-pub returns-clause-all : goal.returns-clause-all
-returns-clause-all c = search rules
-
 pub returns-in_default-clause-long : goal.returns-in_default-clause-long
 returns-in_default-clause-long c = λ is.
     absurd (never_long c.pieces.self.pending c.pieces.self.phase (sym c.progress.ensures ∙ is))
