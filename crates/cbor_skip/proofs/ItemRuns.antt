@@ -1,10 +1,10 @@
 -- Items that follow one another, over any reader, if only their number is known.
-use Rattle.std.proofs.Common.{◌≡◌, ℕ, suc, ◌<◌, Bool, List, [], ◌++◌, Some, Result, Ok, Err}
-use Rattle.std.proofs.Common.{refl, sym, arith, append_assoc, append-nil, false, MatchResult}
+use Rattle.std.proofs.Common.{◌≡◌, ℕ, suc, ◌<◌, Bool, [], Some, Result, Ok, Err}
+use Rattle.std.proofs.Common.{refl, sym, arith, false, MatchResult}
 use Rattle.ciborium_ll_io.specs.declared.io.Read.{Ghosts}
 use Rattle.ciborium_ll_grammar.specs.declared.hdr.Header.{Header}
 use Rattle.ciborium_ll_decoder.specs.declared.dec.Decoder.{Decoder}
-use Rattle.ciborium_ll_grammar.specs.Items.{AreItems, IsItem, more_items, no_items}
+use Rattle.ciborium_ll_grammar.specs.Items.{AreItems, no_items}
 use Rattle.ciborium_ll_decoder.specs.Decoding.{IsSteady, MovesOn, PullsTitle}
 use Rattle.ciborium_ll_decoder.proofs.DecodingLaws.{ReadsPast-none, ReadsPast-then}
 use Rattle.ciborium_ll_grammar.proofs.ItemJoins.{item_before}

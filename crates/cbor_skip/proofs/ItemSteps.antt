@@ -1,6 +1,6 @@
 -- The steps of the read of an item, over any reader.
 use Rattle.std.proofs.Common.{◌≡◌, ℕ, suc, ◌<◌, Bool, true, false, List, [], ◌∷◌, ◌++◌, length, Option}
-use Rattle.std.proofs.Common.{Some, None, Err, refl, sym, subst, ◌∙◌, inl, arith, append_assoc, append-nil}
+use Rattle.std.proofs.Common.{Some, None, Err, refl, sym, subst, ◌∙◌, inl, arith}
 use Rattle.ciborium_ll_io.specs.declared.io.Read.{Ghosts}
 use Rattle.ciborium_ll_grammar.specs.declared.spelling.Spelling.{Spelling}
 use Rattle.ciborium_ll_grammar.specs.declared.spelling.Spelling.TheVariants.{Shortest}
@@ -13,8 +13,8 @@ use Rattle.ciborium_ll_grammar.specs.Strings.{Kind, kind_header, IsString, AreSt
 use Rattle.ciborium_ll_grammar.specs.Strings.IsString.{definite, indefinite}
 use Rattle.ciborium_ll_grammar.specs.Elements.{AreWritable}
 use Rattle.ciborium_ll_grammar.specs.Items.{Completes, byte_string, text_string, open_bytes, open_text, tag, array}
-use Rattle.ciborium_ll_grammar.specs.Items.{pairs, open_array, open_pairs, AreItems, no_items, more_items, IsItem}
-use Rattle.ciborium_ll_grammar.specs.Items.{IsTakenTitle, AreTakenStrings}
+use Rattle.ciborium_ll_grammar.specs.Items.{pairs, open_array, open_pairs, AreItems, no_items}
+use Rattle.ciborium_ll_grammar.specs.Items.{AreTakenStrings}
 use Rattle.ciborium_ll_decoder.specs.Decoding.{ReadsPast, DecoderPullAnswer, PullsTitle, IsSteady, spelling_of}
 use Rattle.ciborium_ll_decoder.specs.Skipping.{IsTakenBehind, SkipsWhole}
 use Rattle.std.proofs.lemmas.List.{append_cancel_right}

@@ -253,12 +253,6 @@ skip_within-returns-in-Break-clause-moves_on g t c =
     MovesOn-then g.R.Read _ _ _ c.items.invariant.moves_on
     (rw c.offset-place.ensures.same at c.skip_title.ensures.moves_on)
 
-pub skip_rest-returns-in-Items-clause-moves_on : goal.skip_rest-returns-in-Items-clause-moves_on
-skip_rest-returns-in-Items-clause-moves_on g t c = c.skip_items.ensures.moves_on
-
-pub skip_rest-returns-in-Nest-clause-moves_on : goal.skip_rest-returns-in-Nest-clause-moves_on
-skip_rest-returns-in-Nest-clause-moves_on g t c = c.skip_within.ensures.moves_on
-
 -- ---- the decoder is nearer to the last offset
 
 pub skip_items-items-smaller-then-levels-gt0 : goal.skip_items-items-smaller-then-levels-gt0
@@ -277,18 +271,3 @@ skip_within-items-smaller g t c =
     c.offset-place.ensures.same (c.in_ok-begun.ensures.rises (search rules)) c.skip_rest.ensures.moves_on.rises
 
 -- ---- the premises of the calls, which a search finds
-
-pub skip_rest-skip_items-requires : goal.skip_rest-skip_items-requires
-skip_rest-skip_items-requires g t c = search rules
-
-pub skip_rest-skip_within-requires : goal.skip_rest-skip_within-requires
-skip_rest-skip_within-requires g t c = search rules
-
-pub skip_items-skip_rest-requires : goal.skip_items-skip_rest-requires
-skip_items-skip_rest-requires g t c = search rules
-
-pub skip_within-skip_rest-requires : goal.skip_within-skip_rest-requires
-skip_within-skip_rest-requires g t c = search rules
-
-pub skip_within-behind-remaining-requires : goal.skip_within-behind-remaining-requires
-skip_within-behind-remaining-requires g t c = search rules

@@ -63,18 +63,6 @@ returns-in-Nest-clause-begun g c =
     begins_nest g.R.Read c.in_ok-header.header c.in-Nest.nest c.nest_begun.result (sym c.start.ensures ∙ c.in-Nest.is)
     c.nest_begun.ensures c.in_ok-header.ensures.header
 
-pub returns-in_err-header-clause-moves_on : goal.returns-in_err-header-clause-moves_on
-returns-in_err-header-clause-moves_on g c = c.pull_title.ensures.moves_on
-
-pub returns-in-Value-clause-moves_on : goal.returns-in-Value-clause-moves_on
-returns-in-Value-clause-moves_on g c = c.pull_title.ensures.moves_on
-
-pub returns-in-Break-clause-moves_on : goal.returns-in-Break-clause-moves_on
-returns-in-Break-clause-moves_on g c = c.pull_title.ensures.moves_on
-
-pub returns-in-Nest-clause-moves_on : goal.returns-in-Nest-clause-moves_on
-returns-in-Nest-clause-moves_on g c = c.pull_title.ensures.moves_on
-
 -- ---- strings
 
 pub returns-in_ok-skip_bytes-in-Bytes-clause-begun : goal.returns-in_ok-skip_bytes-in-Bytes-clause-begun
