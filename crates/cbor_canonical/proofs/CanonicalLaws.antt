@@ -1,6 +1,6 @@
 -- Laws of the rewriting, and of its refusals.
-use Rattle.std.proofs.Common.{◌≡◌, ℕ, ◌+◌, ◌-◌, ◌<◌, ◌≤◌, List, [], ◌∷◌, ◌++◌, length, length-append, refl, sym, ◌∙◌}
-use Rattle.std.proofs.Common.{ap, ap₂, subst, arith, append-nil, append_assoc, take, drop, take-append-drop, false}
+use Rattle.std.proofs.Common.{◌≡◌, ℕ, ◌-◌, ◌<◌, ◌≤◌, List, [], ◌∷◌, ◌++◌, length, length-append, refl, sym, ◌∙◌}
+use Rattle.std.proofs.Common.{ap, subst, arith, append-nil, append_assoc, false}
 use Rattle.std.proofs.Common.{Result, Ok, Err, MatchResult}
 use Rattle.cbor_skip.specs.Due.{ItemDue}
 use Rattle.cbor_deterministic.specs.declared.TheConstants.{MAX_DEPTH}
@@ -29,7 +29,6 @@ use Rattle.cbor_deterministic.proofs.Law.{one_deterministic, some_value}
 use Rattle.cbor_canonical.specs.Canonical.{IsRewritten, IsCanonical, IsFittingSpelling}
 use Rattle.cbor_canonical.specs.Meeting.{MeetsAt, IsNoValue}
 use Rattle.cbor_canonical.specs.Refusals.{HasRefusal, HasNoSimple, HasWhy, IsRefusalOf, IsUnwritten}
-use Rattle.std.proofs.Math.Seq.{take-append_seam}
 use Rattle.ciborium_ll_grammar.proofs.ItemLaws.{one_item}
 use Rattle.cbor_deterministic.specs.Laws.{IsSpelling}
 use Rattle.cbor_canonical.proofs.SpelledLaws.{none_more}
@@ -115,17 +114,6 @@ module _ {R E : Type 0} (source : Ghosts R E) where
       (subst (λ (b : Spelling). SkipsTold source b d bytes old skipped new) mode told) start end is
 
 -- ---- the answer
-
--- The bytes before the length of the item that begins them are the item.
-pub item_split : (d len : ℕ) (bytes : List ℕ) (front : BeginsWithItem Any d bytes) → len ≡ length front.item
-    → (len ≤ length bytes) × IsItem Any d (take len bytes) × (bytes ≡ take len bytes ++ drop len bytes)
-item_split d len bytes front e =
-    let same : take len bytes ≡ front.item =
-    ap₂ (λ (n : ℕ) (w : List ℕ). take n w) e front.is ∙ take-append_seam front.item front.rest in (
-      omega (arith, e, ap (length {A = ℕ}) front.is, length-append front.item front.rest),
-      subst (IsItem Any d) (sym same) front.is_item,
-      sym (take-append-drop len bytes),
-    )
 
 -- An item begins its own bytes.
 pub alone : (d : ℕ) (item : List ℕ) → IsItem Any d item → BeginsWithItem Any d item
@@ -215,11 +203,6 @@ unwritten_more d bytes item rest (Refused r) i z q = go r.why r.place q
             place_is = k.place_is;
           },
         )
-
--- An item that is written is canonical at the beginning of the bytes.
-pub is_canonical : (ord : Order) (d : ℕ) (bytes item rest written : List ℕ) → bytes ≡ item ++ rest
-    → IsRewritten ord d item written → IsCanonical ord d bytes rest written
-is_canonical ord d bytes item rest written z r = record { item = item; whole = z; is = r }
 
 -- Memory that is too small for an item is too small for the bytes that it begins.
 pub lacks_memory : (order : Order) (d room places : ℕ) (bytes item rest : List ℕ) → IsItem Any d item

@@ -17,7 +17,6 @@ use Rattle.ciborium_ll_grammar.specs.Items.{array as any_array, open_array as an
 use Rattle.ciborium_ll_grammar.proofs.TitleLaws.{title_in_range}
 use Rattle.cbor_deterministic.specs.declared.Order.{Order}
 use Rattle.cbor_deterministic.specs.Preferred.{IsIndefinite, IsWide}
-use Rattle.cbor_deterministic.specs.Fronts.{InFront}
 use Rattle.cbor_deterministic.specs.Floats.{IsFloatOf, double_of, single_of, half_of}
 use Rattle.cbor_deterministic.specs.Values.{Value, Values, Unsigned, Negative, Bytes, Text, Array, Tagged, Simple}
 use Rattle.cbor_deterministic.specs.Values.{Float}

@@ -46,12 +46,6 @@ grows_pair done n m p at mid end f g = record {
   wrote = omega (arith, f.wrote, g.wrote);
 }
 
--- If the memory is too small for the rest, it is for all.
-pub lacks_more : (k n m at end room held all places : ℕ) (stop : Stop) → Grows k n m at end → held ≤ all
-    → LacksRoom m end room held places stop → LacksRoom n at room all places stop
-lacks_more k n m at end room held all places stop g l f e r p =
-    f e (rest_fits k n m at end room g r) (fewer_places all held places l p)
-
 -- Room that ends within the bytes that are read is too small.
 pub lacks_bytes : (n at room all places k : ℕ) (stop : Stop) → room < at + k → k ≤ n
     → LacksRoom n at room all places stop
@@ -146,22 +140,6 @@ module _ (t : List ℕ) (x : Header) (p : IsTitle t x) where
       omega (arith, h, whole)
 
 -- ---- pairs
-
--- The places that are left after a number of pairs are enough for the next item.
-pub lacks_item : (n at room held done places : ℕ) (stop : Stop) → done ≤ places
-    → LacksRoom n at room n (places - done) stop → LacksRoom n at room (1 + 2 * done + n) places stop
-lacks_item n at room held done places stop l f is r q = f is r (omega (arith, l, q))
-
--- A pair that has no place.
-pub lacks_place : (n m at end room done places : ℕ) (stop : Stop) → Grows 2 n m at end → places ≤ done
-    → LacksRoom n at room (1 + 2 * done + n) places stop
-lacks_place n m at end room done places stop g l is r q = omega (arith, g.read, l, q)
-
--- If the memory is too small for a pair, it is for all pairs of the map.
-pub lacks_pair : (n m at end room done places : ℕ) (stop : Stop) → Grows (2 * done) n m at end
-    → LacksRoom m end room (1 + 2 * done + m) places stop → LacksRoom n at room (1 + n) places stop
-lacks_pair n m at end room done places stop g f =
-    lacks_more (2 * done) n m at end room (1 + 2 * done + m) (1 + n) places stop g (omega (arith, g.read)) f
 
 -- Places that are too few for the bytes of the pairs are too few for the map.
 pub lacks_order : (k n m at end room places : ℕ) (stop : Stop) → Grows k n m at end → 2 * places < end - at

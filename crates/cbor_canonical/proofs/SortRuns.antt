@@ -87,17 +87,6 @@ sorted_keys o out ss up k d l p =
     (subst (λ (e : Entry). Precedes o e.key (slice_index_or (entries_at out ss) k d).key)
     (entry_of out ss (k + 1) d nowhere (omega (arith, l, long))) p))
 
--- Two keys are the same if neither comes before the other.
-pub equal_there : (o : Order) (r : Ordering) (a b : List ℕ) → Ranks o r a b → (r ≡ Less → ⊥)
-    → (Precedes o b a → ⊥) → a ≡ b
-equal_there o Less a b m n q = absurd (n refl)
-equal_there o Equal a b m n q = m
-equal_there o Greater a b m n q = absurd (q m)
-
-at_least : (r : Ordering) → (r ≡ Equal) ⊎ (r ≡ Greater) → r ≡ Less → ⊥
-at_least r (inl e) f = cc
-at_least r (inr e) f = cc
-
 -- Keys are the same if neither comes before the other.
 pub neither_before : (o : Order) (a b : List ℕ) → (Precedes o a b → ⊥) → (Precedes o b a → ⊥) → a ≡ b
 neither_before o a b f g = go (order_cmp o a b) (order_ranks o a b)

@@ -13,14 +13,11 @@ use Rattle.ciborium_ll_grammar.specs.Strings.{AreStrings}
 use Rattle.ciborium_ll_grammar.specs.Strings.{none, more, IsWritable}
 use Rattle.ciborium_ll_grammar.specs.Elements.{AreWritable, body_spelling}
 use Rattle.ciborium_ll_grammar.proofs.TitleLaws.{one_title}
-use Rattle.ciborium_ll_grammar.proofs.AloneLaws.{title_some, alone_bytes}
+use Rattle.ciborium_ll_grammar.proofs.AloneLaws.{title_some}
 use Rattle.ciborium_ll_grammar.proofs.StringLaws.{break_title, not_break, same_string, some_is, mixed}
 use Rattle.cbor_deterministic.specs.Fronts.{InFront}
-use Rattle.cbor_canonical.specs.declared.Stop.{Stop}
-use Rattle.cbor_canonical.specs.declared.Stop.TheVariants as st
 use Rattle.cbor_canonical.specs.Runs.{Turns}
 use Rattle.cbor_canonical.specs.Strings.{IsBody, HasNoBody, IsChunk, Closes, all_closed, by_break, by_chunk, by_open}
-use Rattle.cbor_canonical.specs.Strings.{FailsGather, FailsString}
 use Rattle.cbor_canonical.specs.Strings.{HasNoStep, Gathers, IsContent, told, until_break, IsStringTurned}
 use Rattle.cbor_canonical.specs.Writing.{Adds, Extends, Inserts}
 use Rattle.ciborium_ll_grammar.proofs.FrontLaws.{no_title_there}
@@ -55,22 +52,6 @@ chunk_there k len o x bytes rest body after f e l b = record {
     whole = refl;
   };
   whole = f.whole ∙ ap (λ (z : List ℕ). f.title ++ z) b.whole ∙ sym (append_assoc f.title body after);
-}
-
--- A break is the byte `ff`.
-pub break_there : (x : Header) (bytes rest : List ℕ) → HasFirstTitle bytes x rest → x ≡ h.Break
-    → bytes ≡ 0xff ∷ rest
-break_there x bytes rest f e =
-    let one : f.title ≡ 0xff ∷ [] =
-    alone_bytes f.title h.Break (subst (λ (y : Header). IsTitle f.title y) e f.is_title) refl in
-    f.whole ∙ ap (λ (z : List ℕ). z ++ rest) one
-
-pub open_there : (k : Kind) (o : Option ℕ) (x : Header) (bytes rest : List ℕ) → HasFirstTitle bytes x rest
-    → x ≡ kind_header k o → o ≡ None → InFront (λ t. IsTitle t (kind_header k None)) bytes rest
-open_there k o x bytes rest f e n = record {
-  front = f.title;
-  is = subst (λ (y : Header). IsTitle f.title y) (e ∙ ap (kind_header k) n) f.is_title;
-  whole = f.whole;
 }
 
 -- The title at the beginning of bytes that close their opens is a break, a string or a further open.
@@ -394,15 +375,3 @@ open_turned k bytes rest at end after old now new l g r w =
       from = omega (arith, g.from, w.from);
       within = w.within;
     }
-
--- A fault in the strings and the break of an open string is a fault of the string.
-pub gather_string_fails : (k : Kind) (bytes : List ℕ) (stop : Stop) → FailsGather k bytes stop
-    → FailsString k None bytes stop
-gather_string_fails k bytes st.Malformed f = λ content body rest i z. go content body rest i z
-  where
-    go : (content body rest : List ℕ) → IsContent k None content body → bytes ≡ content ++ rest → ⊥
-    go content body rest (until_break {strings = s} {bodies = bs} q a) z =
-        f s rest bs q a (z ∙ append_assoc s (0xff ∷ []) rest)
-gather_string_fails k bytes (st.NoSimple left) f = f
-gather_string_fails k bytes (st.Duplicate left) f = f
-gather_string_fails k bytes st.Room f = tt
