@@ -1,9 +1,6 @@
 use Rattle.ciborium_ll.proofs.PiecesWritten.{copied_same}
 use Rattle.ciborium_ll.proofs.laws.pieces.copy_spelled.Goals as goal
 
-pub returns-clause-copied : goal.returns-clause-copied
-returns-clause-copied g c = c.recode.ensures.copied
-
 pub returns-clause-same : goal.returns-clause-same
 returns-clause-same g c = λ marks rest written run ready.
     copied_same g.R.Read g.W.Write c.args.count marks rest written _ _ _ c.recode.result run
