@@ -1,5 +1,5 @@
 -- Lemmas about blocks of sixteen bytes, lane by lane.
-use Rattle.std.proofs.Common.{◌≡◌, ℕ, zero, suc, ◌+◌, ◌-◌, ◌*◌, ◌/◌, ◌%◌, ◌^◌, ◌<◌, ◌≤◌, Bool, true, false, not, cond}
+use Rattle.std.proofs.Common.{◌≡◌, ℕ, zero, suc, ◌+◌, ◌-◌, ◌*◌, ◌/◌, ◌%◌, ◌^◌, ◌<◌, ◌≤◌, true, not, cond}
 use Rattle.std.proofs.Common.{eqb, List, [], ◌∷◌, map, length, get_or, replicate, bit_and, bit_or, bit_xor, refl, sym}
 use Rattle.std.proofs.Common.{ap, ◌∙◌, arith, w8, Fits, subst, eqb-true}
 use Rattle.std.proofs.lemmas.List.{get_or-map, ext_get_or, length-map}
@@ -90,11 +90,7 @@ abbrev pub differs : ℕ → ℕ → ℕ
 differs a b = cond (not (eqb a b)) 255 0
 
 flag : (x : ℕ) → (◌≡◌ {A = ℕ} (cond (top 7 (differs x 0)) 1 0) 0) → x ≡ 0
-flag x = go (eqb x 0) refl
-  where
-    go : (t : Bool) → eqb x 0 ≡ t → (◌≡◌ {A = ℕ} (cond (top 7 (cond (not t) 255 0)) 1 0) 0) → x ≡ 0
-    go true e q = eqb-true _ _ e
-    go false e q = absurd (omega arith)
+flag x = grind (arith, eqb-true)
 
 none_differ : (xs : List ℕ) → mask_l (map (top 7) (zip2 differs xs (replicate (length xs) 0))) ≡ 0 → (i : ℕ)
     → get_or xs i 0 ≡ 0

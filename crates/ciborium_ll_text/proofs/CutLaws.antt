@@ -6,7 +6,6 @@ use Rattle.std.proofs.lemmas.Bool.{cases_lt}
 use Rattle.std.proofs.lemmas.List.{length-append}
 use Rattle.std.proofs.lemmas.Str.{encode_same}
 use Rattle.std.specs.List.{AllByRecursion}
-use Rattle.std.proofs.Math.Utf8.{encode}
 use Rattle.ciborium_ll_text.specs.Text.{IsCharacter, joined, IsCharacters}
 use Rattle.ciborium_ll_text.specs.Cuts.{IsMember, IsNonempty, IsCut, AreFilled, IsFullCut}
 use Rattle.ciborium_ll_text.proofs.Lists.{same_front, front_of_front}
@@ -15,12 +14,7 @@ use Rattle.ciborium_ll_text.proofs.TextLaws.{IsCharacters-append, IsCharacters-r
 
 -- No character begins another character.
 pub one_character : (x y r s : List ℕ) → IsCharacter x → IsCharacter y → x ++ r ≡ y ++ s → x ≡ y
-one_character x y r s p q e =
-    let a = written x p in
-    let b = written y q in
-    let same : encode a.char ++ r ≡ encode b.char ++ s = ap (λ (z : List ℕ). z ++ r) a.is
-    ∙ (e ∙ ap (λ (z : List ℕ). z ++ s) (sym b.is)) in
-    sym a.is ∙ (ap encode ((encode_same a.char b.char r s same).0) ∙ b.is)
+one_character x y r s p q e = grind (arith, written, encode_same)
 
 -- The list begins with a character.
 pub record Starts (t : List ℕ) : Type 0 where

@@ -40,9 +40,7 @@ no_text_behind read more none = grind (arith, nat_tests, append_assoc)
 
 -- Bytes are UTF-8 if they are as long as their longest front that is UTF-8.
 front_whole : (bytes front rest : List ℕ) → IsFront bytes front rest → length front ≡ length bytes → IsCharacters bytes
-front_whole bytes front rest f e =
-    let n : rest ≡ [] = length_zero rest (omega (arith, e, ap (length {A = ℕ}) f.parts, length-append front rest)) in
-    subst IsCharacters (sym (f.parts ∙ ap (λ (z : List ℕ). front ++ z) n ∙ append-nil front)) f.text
+front_whole bytes front rest f e = grind (arith, length_zero, length-append, append-nil)
 
 whole_front : (bytes front rest : List ℕ) → IsFront bytes front rest → IsCharacters bytes → length front ≡ length bytes
 whole_front bytes front rest f c =
@@ -59,7 +57,4 @@ told_same m n e = grind (arith, nat_tests)
 pub text_told : (bytes front rest : List ℕ) → IsFront bytes front rest
     → (IsTrue (nat_eq (length front) (length bytes)) → IsCharacters bytes)
     × (IsCharacters bytes → IsTrue (nat_eq (length front) (length bytes)))
-text_told bytes front rest f = (
-  λ t. front_whole bytes front rest f (same_told (length front) (length bytes) t),
-  λ c. told_same (length front) (length bytes) (whole_front bytes front rest f c),
-)
+text_told bytes front rest f = grind (arith, front_whole, same_told, told_same, whole_front)

@@ -30,7 +30,7 @@ unfolding is_from after_first after_next
 back state b d = grind (arith, nat_tests, begins, goes_on)
 
 -- Bytes are due in each state but `Between` and `Damaged`.
-pub inside_due : (state : State) → (state ≡ s.Between → ⊥) → (state ≡ s.Damaged → ⊥) → 0 < tail_due state
+inside_due : (state : State) → (state ≡ s.Between → ⊥) → (state ≡ s.Damaged → ⊥) → 0 < tail_due state
 inside_due state n d = grind arith
 
 -- At most three bytes are due.
@@ -78,9 +78,11 @@ pub record CutCharacter (x : List ℕ) : Type 0 where
   pub three : get_or x (length x - 1) 0 < 0xc0 → get_or x (length x - 2) 0 < 0xc0 → IsLastEnd x (length x - 3)
 
 -- Bytes that end inside a character end with a cut character.
-pub cut_character : (x : List ℕ) → 0 < tail_due (after s.Between x) → CutCharacter x
-cut_character x d =
+pub cut_character : (x : List ℕ) (state : State) → state ≡ after s.Between x
+    → (state ≡ s.Between → ⊥) × (state ≡ s.Damaged → ⊥) → CutCharacter x
+cut_character x state told inside =
     let n = length x in
+    let d = rw told at (inside_due state inside.0 inside.1) in
     let d1 : 0 < due x n = rw (take_all n x (omega arith)) d in
     let some = some_at x n d1 in
     let second : get_or x (n - 1) 0 < 0xc0 → due x (n - 1) ≡ due x n + 1 =
