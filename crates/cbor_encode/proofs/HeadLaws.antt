@@ -50,11 +50,6 @@ shortest_head allowed header bytes meant range same = record {
   taken = shortest_taken allowed header bytes (λ small. (let some = meant small in grind (arith, some))) same;
 }
 
--- A title of any width is taken if the mode is not strict.
-pub loose_head : (allowed : Spelling) (header : Header) (bytes : List ℕ) → allowed ≡ Any → IsTitle bytes header
-    → IsHead allowed header bytes
-loose_head allowed header bytes loose title = rw loose (record { title = title; taken = tt })
-
 -- Two calls add a title and a body.
 pub body_added : (allowed : Spelling) (header : Header) (title body before within after : List ℕ)
     → IsHead allowed header title → within ≡ before ++ title → after ≡ within ++ body

@@ -10,7 +10,7 @@ use Rattle.ciborium_ll_grammar.specs.Items.{tag, array, pairs, open_array, open_
 use Rattle.ciborium_ll_grammar.proofs.ItemJoins.{item_of, items_item}
 use Rattle.cbor_encode.specs.Adding.{Adds, IsHead, HasBody}
 use Rattle.cbor_encode.specs.declared.heads.Mark.{Mark}
-use Rattle.cbor_encode.specs.Scalars.{IsMeant, IsScalar}
+use Rattle.cbor_encode.specs.Scalars.{IsScalar}
 
 -- A title and the contents that complete it are an item.
 pub one_item : (allowed : Spelling) (depth : ℕ) (header : Header) (title body : List ℕ) → IsHead allowed header title
@@ -48,12 +48,6 @@ pairs_more allowed depth count before key after are first second =
     let same : 2 * count + 1 + 1 ≡ 2 * (count + 1) = omega arith in
     rw same at next
 
--- An item that a call adds to no bytes is all bytes.
-pub item_alone : (allowed : Spelling) (depth : ℕ) (before after : List ℕ) → before ≡ []
-    → Adds (IsItem allowed depth) before after → IsItem allowed depth after
-item_alone allowed depth before after none adds =
-    subst (IsItem allowed depth) (sym (rw none at adds.parts)) adds.is
-
 -- A scalar is an item by itself.
 pub scalar_completes : (allowed : Spelling) (depth : ℕ) (header : Header) (mark : Option Mark) → IsScalar header mark
     → Completes allowed depth header []
@@ -67,19 +61,6 @@ scalar_completes allowed depth (h.Bytes len) mark is = absurd is
 scalar_completes allowed depth (h.Text len) mark is = absurd is
 scalar_completes allowed depth (h.Array len) mark is = absurd is
 scalar_completes allowed depth (h.Map len) mark is = absurd is
-
--- A scalar may be encoded with its mark.
-pub scalar_meant : (header : Header) (mark : Option Mark) → IsScalar header mark → IsMeant header mark
-scalar_meant (h.Positive number) mark is small = absurd small
-scalar_meant (h.Negative number) mark is small = absurd small
-scalar_meant (h.Float value) mark is small = absurd small
-scalar_meant (h.Simple number) mark is small = is small
-scalar_meant (h.Tag number) mark is small = absurd small
-scalar_meant h.Break mark is small = absurd small
-scalar_meant (h.Bytes len) mark is small = absurd small
-scalar_meant (h.Text len) mark is small = absurd small
-scalar_meant (h.Array len) mark is small = absurd small
-scalar_meant (h.Map len) mark is small = absurd small
 
 -- ---- contents of nests
 
