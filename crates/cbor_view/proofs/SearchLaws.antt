@@ -1,5 +1,5 @@
 -- The first pair with a key, and the keys that are the same text.
-use Rattle.std.proofs.Common.{◌≡◌, ℕ, zero, suc, ◌+◌, ◌-◌, ◌<◌, Bool, true, false, List, [], ◌++◌, length}
+use Rattle.std.proofs.Common.{◌≡◌, ℕ, zero, suc, ◌+◌, ◌-◌, Bool, true, false, List, [], ◌++◌, length}
 use Rattle.std.proofs.Common.{Option, Some, None, MatchOption, IsTrue, refl, sym, ◌∙◌, ap, subst, arith, length-append}
 use Rattle.std.specs.List.{concat, IsSplitAt}
 use Rattle.std.proofs.lemmas.Grind.{not_there}
@@ -196,14 +196,6 @@ no_text w text n = (
 )
 
 -- ---- a front of bytes
-
-pub cut_front : (xs front : List ℕ) → length xs < length front → (rest : List ℕ) → xs ≡ front ++ rest → ⊥
-cut_front xs front l rest z = omega (arith, ap length z, length-append front rest)
-
-pub split_front : (xs front begun back : List ℕ) → IsSplitAt xs (length front) begun back → begun ≡ front
-    → xs ≡ front ++ back
-split_front xs front begun back s z =
-    split_whole xs begun back (length front) s ∙ ap (λ (v : List ℕ). v ++ back) z
 
 pub differs : (xs front begun back : List ℕ) → IsSplitAt xs (length front) begun back → (begun ≡ front → ⊥)
     → (rest : List ℕ) → xs ≡ front ++ rest → ⊥

@@ -1,4 +1,4 @@
-use Rattle.std.proofs.Common.{arith, rules, ap, length}
+use Rattle.std.proofs.Common.{arith, ap, length}
 use Rattle.std.proofs.lemmas.Bool.Decides.{nat_tests}
 use Rattle.ciborium_ll_text.proofs.Lists.{length_zero}
 use Rattle.cbor_view.proofs.SearchLaws.{all_left, less_left, other_front, at_end}
@@ -9,9 +9,6 @@ segments-init c = record {
   has = c.requires;
   same = λ kind bodies s. all_left kind bodies c.args.bytes.now c.args.segments.now s;
 }
-
-pub next_segment-requires : goal.next_segment-requires
-next_segment-requires c = c.segments.invariant.has
 
 pub returns-in_default-after_front : goal.returns-in_default-after_front
 returns-in_default-after_front c kind bodies s =
@@ -27,9 +24,6 @@ segments-preserved c = record {
       c.in-Some.after.now c.in-Some-after_front.more.now (c.segments.invariant.same kind bodies s)
       c.in-Some.ensures.first c.in-Some-after_front.ensures;
 }
-
-pub segments-smaller : goal.segments-smaller
-segments-smaller c = c.in-Some.ensures.shorter
 
 pub returns : goal.returns
 returns c kind bodies s =

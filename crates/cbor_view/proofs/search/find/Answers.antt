@@ -1,4 +1,4 @@
-use Rattle.std.proofs.Common.{ℕ, ◌∙◌, refl, subst, arith, List, ◌++◌}
+use Rattle.std.proofs.Common.{ℕ, ◌∙◌, refl, subst, ◌++◌}
 use Rattle.ciborium_ll_grammar.specs.declared.spelling.Spelling.TheVariants.{Any}
 use Rattle.ciborium_ll_grammar.specs.Items.{IsItem}
 use Rattle.cbor_view.specs.Pairs.{IsKey}

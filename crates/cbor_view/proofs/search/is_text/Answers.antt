@@ -1,7 +1,5 @@
-use Rattle.std.proofs.Common.{ℕ, List, subst, Bool, IsTrue, ◌≡◌}
+use Rattle.std.proofs.Common.{ℕ, List, subst, IsTrue, ◌≡◌}
 use Rattle.std.specs.List.{concat}
-use Rattle.ciborium_ll_grammar.specs.Strings.{Kind}
-use Rattle.cbor_view.specs.Segments.{AreSegments, SpellsText}
 use Rattle.cbor_view.proofs.SegmentLaws.{as_segments}
 use Rattle.cbor_view.proofs.SearchLaws.{text_told, no_text}
 use Rattle.cbor_view.proofs.search.is_text.Goals as goal

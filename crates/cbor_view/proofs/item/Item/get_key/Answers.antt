@@ -1,4 +1,3 @@
-use Rattle.std.proofs.Common.{Some, ◌∙◌, sym, arith, rules}
 use Rattle.ciborium_ll_grammar.specs.declared.hdr.Header.TheVariants as h
 use Rattle.cbor_view.specs.Pairs.{IsKey}
 use Rattle.cbor_view.specs.Views.{closed}

@@ -1,9 +1,6 @@
 use Rattle.std.proofs.Common.{length, ◌<◌, refl, rules}
 use Rattle.cbor_view.proofs.segments.SegmentsIterator.next.Goals as goal
 
-pub next_segment-requires : goal.next_segment-requires
-next_segment-requires c = c.args.self.now.are
-
 pub invariant_of-self : goal.invariant_of-self
 invariant_of-self c = record { are = c.in-Some.ensures.left }
 
