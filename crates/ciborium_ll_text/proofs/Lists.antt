@@ -1,6 +1,6 @@
 -- Fronts and rests of lists, empty lists, and lists of bytes.
 use Rattle.std.proofs.lemmas.Bool.Decides.{nat_tests}
-use Rattle.std.proofs.Common.{◌≡◌, ℕ, suc, ◌+◌, ◌-◌, ◌<◌, ◌≤◌, List, [], ◌∷◌, ◌++◌, length, take, drop, get_or}
+use Rattle.std.proofs.Common.{◌≡◌, ℕ, suc, ◌+◌, ◌-◌, ◌<◌, ◌≤◌, min, List, [], ◌∷◌, ◌++◌, length, take, drop, get_or}
 use Rattle.std.proofs.Common.{refl, ap, ◌∙◌, arith, length-drop}
 use Rattle.std.proofs.lemmas.List.{get_or-take, length-take-le, take_rest}
 use Rattle.std.proofs.Math.Seq.{take-append_seam, take-append-add}
@@ -33,6 +33,11 @@ front_of_front (x ∷ a) (y ∷ b) r s e l =
 pub length_zero : (bytes : List ℕ) → length bytes ≡ 0 → bytes ≡ []
 length_zero [] e = refl
 length_zero (byte ∷ bytes) e = absurd (omega arith)
+
+-- `drop (min 1 (length rest))` drops the first byte, if there is one.
+pub first_counted : (rest : List ℕ) → drop (min 1 (length rest)) rest ≡ drop 1 rest
+first_counted [] = refl
+first_counted (b ∷ rest) = grind (arith, nat_tests)
 
 -- If the bytes read are `len` bytes, they are the front of this length.
 pub front_of : (len : ℕ) (rest read more : List ℕ) → rest ≡ read ++ more → length read ≡ len → take len rest ≡ read
