@@ -31,6 +31,3 @@ returns-in-Fault-clause-answers c =
 
 pub returns-in-Fault-clause-tells : goal.returns-in-Fault-clause-tells
 returns-in-Fault-clause-tells c = copier_tells c.args.self.now (r.Fault c.in-Fault.fault) (returns-in-Fault-clause-answers c)
-
-pub returns-in-TooLong : goal.returns-in-TooLong
-returns-in-TooLong c = absurd (c.progress.ensures.long c.in-TooLong.is)

@@ -72,9 +72,6 @@ returns-clause-fits c =
     never_room c.args.self.now c.pieces.self c.answer-2.result (length c.args.bytes.now) (length c.args.out.now)
     c.pieces.at c.pieces.written c.answer-2.ensures.answers (rw (← so_far.long) so_far.full) so_far.grown so_far.within
 
-pub returns-in-None-clause-grown : goal.returns-in-None-clause-grown
-returns-in-None-clause-grown c = omega (arith, c.in-None.ensures.held_same, c.pieces.invariant.grown)
-
 pub returns-in_default-clause-long : goal.returns-in_default-clause-long
 returns-in_default-clause-long c = λ is.
     absurd (never_long (pending c.pieces.self) (item_spot c.pieces.self) (sym c.answer.ensures.answers ∙ is))
