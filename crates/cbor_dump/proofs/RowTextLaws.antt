@@ -1,6 +1,6 @@
 -- The texts of rows, as they are written step by step.
 use Rattle.std.proofs.lemmas.Bool.Decides.{nat_tests}
-use Rattle.std.proofs.Common.{◌≡◌, ◌∙◌, ℕ, zero, suc, ◌+◌, ◌<◌, List, [], ◌∷◌, ◌++◌, refl, sym, ap, arith}
+use Rattle.std.proofs.Common.{◌≡◌, ◌∙◌, ℕ, ◌+◌, ◌<◌, List, [], ◌∷◌, ◌++◌, refl, sym, ap, arith}
 use Rattle.std.proofs.Common.{append-nil, append_assoc, length, take, get_or, Option, None, Some, Result, subst}
 use Rattle.std.proofs.Common.{◌⊎◌, inl, inr, ◌-◌, ◌*◌, ◌/◌, ◌^◌, ◌≤◌, min, nat_le, length-append, Bool, true, false, codes}
 use Rattle.std.proofs.Common.{le-leb}
@@ -12,7 +12,7 @@ use Rattle.std.proofs.lemmas.Grind.{put_two}
 use Rattle.std.specs.Fmt.{HasWritten, IsPlainFormatter, DisplaysOnOk, WritesOnOk}
 use Rattle.std.specs.declared.fmt.Formatter.{Formatter}
 use Rattle.ciborium_ll_text.specs.Digits.{hex_text}
-use Rattle.cbor_dump.specs.RowTexts.{blank, more_text, characters_text, character_text}
+use Rattle.cbor_dump.specs.RowTexts.{more_text, characters_text, character_text}
 use Rattle.cbor_dump.specs.RowTexts.{shown_text, bytes_key, digits_text, no_key, quoted_text, text_key}
 use Rattle.cbor_dump.specs.RowTexts.{IsHeaderValue, IsRowText, IsValue, WritesOneOnOk, known_header, known_of}
 use Rattle.cbor_dump.specs.RowTexts.{known_text, row_text}
@@ -20,13 +20,6 @@ use Rattle.cbor_dump.specs.declared.rows.Meaning.{Meaning}
 use Rattle.cbor_dump.specs.declared.rows.Meaning.TheVariants as m
 use Rattle.cbor_dump.specs.declared.rows.Row.{Row}
 use Rattle.ciborium_ll.specs.Types.Header.{Header}
-
--- One more space follows this many spaces.
-pub blank_more : (count : ℕ) → blank count ++ 32 ∷ [] ≡ blank (count + 1)
-blank_more zero = refl
-blank_more (suc count) =
-    let same : suc (count + 1) ≡ suc count + 1 = omega arith in
-    ap (λ (z : List ℕ). 32 ∷ z) (blank_more count) ∙ ap blank same
 
 -- The digits of one more byte follow after a space.
 pub more_more : (bytes : List ℕ) (byte : ℕ) → more_text (bytes ++ byte ∷ []) ≡ more_text bytes ++ (32 ∷ hex_text byte)

@@ -25,9 +25,6 @@ returns-in-Err-clause-failures g c =
     rw c.offset-start.ensures.same at c.in-Err.ensures.skipped.skipped in
     one_failures g.R.Read depth room old new (Err (n.Item c.in-Err.error)) fails
 
-pub returns-in-Err-clause-moves_on : goal.returns-in-Err-clause-moves_on
-returns-in-Err-clause-moves_on g c = rw c.offset-start.ensures.same at c.in-Err.ensures.skipped.moves_on
-
 pub returns : goal.returns
 returns g c =
     let old = c.args.decoder.now in

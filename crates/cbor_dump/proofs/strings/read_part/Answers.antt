@@ -1,4 +1,4 @@
-use Rattle.std.proofs.Common.{arith, rules}
+use Rattle.std.proofs.Common.{arith}
 use Rattle.cbor_dump.proofs.LeaveLaws.{row_read}
 use Rattle.cbor_dump.proofs.PartLaws.{bytes_part, fault_part}
 use Rattle.cbor_dump.proofs.RowLaws.{row_few}
@@ -17,9 +17,6 @@ returns-else-branch-clause-reads g c = λ some none.
     rw c.in-Text.is
     (fault_part g.R.Read c.args.left c.args.place _ _ _ read.most (row_few c.read_text.new.self)
     (rw c.if-branch.false at (read.reads some none)))
-
-pub returns-in-Bytes-clause-full : goal.returns-in-Bytes-clause-full
-returns-in-Bytes-clause-full g c = search rules
 
 pub returns-in-Bytes-clause-moves : goal.returns-in-Bytes-clause-moves
 returns-in-Bytes-clause-moves g c = row_read g.R.Read _ _ _ _ _ _ c.read.ensures.reads

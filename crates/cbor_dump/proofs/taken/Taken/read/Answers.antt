@@ -1,7 +1,6 @@
 use Rattle.std.proofs.Common.{◌+◌, arith, subst, sym, List, ℕ}
 use Rattle.std.proofs.lemmas.Slice.{take-put_mid}
 use Rattle.ciborium_ll.specs.Decoding.{ReadsAll}
-use Rattle.std.proofs.lemmas.Grind.{common_steps}
 use Rattle.cbor_dump.specs.Takings.{Keeps, taken_bytes}
 use Rattle.cbor_dump.proofs.TakingLaws.{keeps_read, keeps_failed, same_front}
 use Rattle.cbor_dump.proofs.taken.Taken.read.Goals as goal
@@ -21,12 +20,3 @@ returns-clause-keeps g c =
     let all : ReadsAll g.R.Read c.args.decoder.now read c.read_exact.new.self = c.in_ok-read_exact.ensures.reads.read in
     let keeps = keeps_read g.R.Read (taken_bytes taken) read _ _ all c.read_exact.ensures.reads.steady in
     rw (take-put_mid taken.len _ taken.bytes read (taken.len + c.min.result) (omega arith) (omega arith)) keeps
-
-pub returns-clause-all : goal.returns-clause-all
-returns-clause-all g c = grind (arith, common_steps)
-
-pub returns-clause-reads : goal.returns-clause-reads
-returns-clause-reads g c = grind (arith, common_steps)
-
-pub returns-in_err-read_exact-clause-none : goal.returns-in_err-read_exact-clause-none
-returns-in_err-read_exact-clause-none g c = grind (arith, common_steps)

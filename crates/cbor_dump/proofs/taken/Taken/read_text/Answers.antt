@@ -179,6 +179,3 @@ returns-in_err-read-2-clause-moves g c =
     let same = exit_is residual.result c.in_err-read-2.field-0.0 residual.ensures.1 in
     rw same (stops_then g.R.Read c.in_err-read-2.field-0.0 _ _ _ c.more.invariant.moves
     (row_read g.R.Read _ _ _ _ _ _ c.in_err-read-2.ensures.reads))
-
-pub returns-clause-moves : goal.returns-clause-moves
-returns-clause-moves g c = c.more.invariant.moves
