@@ -215,9 +215,6 @@ widened32 s e m l h = go (nat_lt e 255) (nat_lt 0 e) (nat_lt 0 m) refl refl refl
 
 -- ---- only one float
 
-one_sum : (e e' m m' : ℕ) → e ≡ e' → m ≡ m' → (e ≡ e') × (m ≡ m')
-one_sum e e' m m' p q = (p, q)
-
 cancel : (a b c : ℕ) → 0 < c → a * c ≡ b * c → a ≡ b
 cancel a b c l e = sym (mul-div_cancel a l) ∙ ap (λ (z : ℕ). z / c) e ∙ mul-div_cancel b l
 

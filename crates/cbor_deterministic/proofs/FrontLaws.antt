@@ -11,9 +11,6 @@ pub record Leads (P : List ℕ → Type 0) (S : List ℕ → Why → ℕ → Typ
   pub there : (more : List ℕ) → InFront Q rest more → InFront P bytes more
   pub stops : (why : Why) (left : ℕ) → T rest why left → S bytes why left
 
-pub leads_same : (P : List ℕ → Type 0) (S : List ℕ → Why → ℕ → Type 0) (bytes : List ℕ) → Leads P S bytes P S bytes
-leads_same P S bytes = record { there = λ more f. f; stops = λ why left f. f }
-
 -- If all bytes of the first kind are of the second kind, a front of the first kind is one of the second kind.
 pub map_front : (P Q : List ℕ → Type 0) (bytes rest : List ℕ) → ((w : List ℕ) → P w → Q w) → InFront P bytes rest
     → InFront Q bytes rest

@@ -1,5 +1,5 @@
 -- A strict decoder takes each item in the deterministic encoding, so no item begins another item.
-use Rattle.std.proofs.Common.{◌≡◌, ℕ, zero, suc, ◌*◌, List, [], ◌++◌, refl, sym, ◌∙◌, ap, subst, append_assoc}
+use Rattle.std.proofs.Common.{◌≡◌, ℕ, zero, suc, ◌*◌, List, ◌++◌, subst}
 use Rattle.std.proofs.Common.{append-nil, arith}
 use Rattle.ciborium_ll_grammar.specs.declared.spelling.Spelling.TheVariants.{Shortest}
 use Rattle.ciborium_ll_grammar.specs.declared.hdr.Header.{Header}

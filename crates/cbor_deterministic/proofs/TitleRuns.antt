@@ -1,6 +1,6 @@
 -- Titles of the preferred serialization, and bytes that begin with no such title.
-use Rattle.std.proofs.Common.{◌≡◌, ℕ, ◌%◌, ◌<◌, inl, inr, List, [], ◌∷◌, ◌++◌, length, refl, sym, ◌∙◌, subst, arith}
-use Rattle.std.proofs.Common.{◌+◌, Bool, true, false, IsTrue, slice_index}
+use Rattle.std.proofs.Common.{◌≡◌, ℕ, ◌<◌, inl, inr, List, [], ◌∷◌, ◌++◌, length, refl, sym, ◌∙◌, subst, arith}
+use Rattle.std.proofs.Common.{Bool, true, false, IsTrue}
 use Rattle.ciborium_ll_grammar.specs.declared.hdr.Minor.{Minor}
 use Rattle.ciborium_ll_grammar.specs.declared.hdr.Title.{Title}
 use Rattle.ciborium_ll_grammar.specs.Parts.{IsParts, refused_when_strict, minor_code, parts_bytes, title_bytes}
@@ -10,7 +10,7 @@ use Rattle.cbor_deterministic.specs.declared.Why.TheVariants.{NoTitle, NotShorte
 use Rattle.ciborium_ll_grammar.specs.declared.hdr.Header.{Header}
 use Rattle.ciborium_ll_grammar.specs.Title.{IsTitle, shortest_title, IsInRange, IsSmallSimple, IsCutTitle}
 use Rattle.ciborium_ll_grammar.specs.Title.{BeginsRefused}
-use Rattle.ciborium_ll_grammar.specs.Title.{affix_len, numbered, alone}
+use Rattle.ciborium_ll_grammar.specs.Title.{numbered, alone}
 use Rattle.ciborium_ll_grammar.proofs.TitleLaws.{one_title, title_refused, title_in_range, IsTitle-shortest, Same}
 use Rattle.ciborium_ll_grammar.proofs.AffixLaws.{title_not_cut, refused_affix}
 use Rattle.ciborium_ll_grammar.proofs.AloneLaws.{title_some}

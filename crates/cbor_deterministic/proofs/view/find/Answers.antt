@@ -55,6 +55,3 @@ returns-in-Greater-clause-found c =
     c.in-Ok-next_item.value.bytes.now c.in-Ok.after.now c.in-Ok-next_item.last.now c.args.key.now
     c.pairs.invariant.back c.pairs.invariant.are c.pairs-test.true c.in-Ok.ensures.item c.in-Ok.ensures.whole
     c.in-Ok-next_item.ensures.item c.in-Ok-next_item.ensures.whole c.in-Greater.ensures
-
-pub returns-in-Equal-clause-depth : goal.returns-in-Equal-clause-depth
-returns-in-Equal-clause-depth c = c.in-Ok-next_item.ensures.depth

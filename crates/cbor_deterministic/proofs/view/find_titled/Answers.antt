@@ -51,6 +51,3 @@ returns-then-is_titled-clause-found c =
     c.in-Ok.ensures.whole c.in-Ok-next_item.ensures.item
     c.in-Ok-next_item.ensures.whole
     (told c.is_titled.result c.if-is_titled.true c.is_titled.ensures))
-
-pub returns-then-is_titled-clause-order : goal.returns-then-is_titled-clause-order
-returns-then-is_titled-clause-order c = c.in-Ok-next_item.ensures.order
