@@ -500,12 +500,16 @@ fn other_runs(
     run
 }
 
-/// Returns whether the title of a text or of a tag begins at `at`.
+/// Returns whether a tag begins at `at`, or a text of which enough bytes are there, by its first byte.
 #[inline(always)]
 fn begins_other(bytes: &[u8], at: usize) -> bool
     ensures { result ≡ true → at < length bytes.now }
 {
-    at < bytes.len() && matches!(bytes[at] / 32, 3 | 6)
+    if at >= bytes.len() {
+        return false;
+    }
+    let first = bytes[at];
+    first / 32 == 6 || first / 32 == 3 && usize::from(first % 32) < bytes.len() - at
 }
 
 /// Takes at most `most` items that [`plain_len`] measures and texts of up to 255 bytes, if an item is due at `offset`.

@@ -57,6 +57,7 @@ impl Walk<'_> {
         requires phase { self.old.phase ≡ p.Title }
         requires fresh { length self.old.front ≡ 0 }
         requires due { self.old.within ≡ w.Nothing }
+        requires some { 0 < length bytes.now }
         requires room { self.old.offset + length bytes.now ≤ usize.MAX }
         ensures some { result.1 ≡ false → 0 < result.0 }
         ensures within { result.0 ≤ length bytes.now }
@@ -66,6 +67,10 @@ impl Walk<'_> {
         ensures clear { result.1 ≡ true → length self.new.front ≡ 0 }
         ensures lent { AreLent self.old.levels self.new.levels }
     {
+        // A nest is no plain item.
+        if nest_of(bytes[0]).is_some() {
+            return (0, true);
+        }
         let Some(level) = self.levels.innermost() else {
             return (0, true);
         };
