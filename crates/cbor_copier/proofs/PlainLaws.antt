@@ -8,6 +8,7 @@ use Rattle.std.proofs.lemmas.Bool.{agree_below_at}
 use Rattle.std.proofs.lemmas.Bool.Decides.{nat_tests}
 use Rattle.std.proofs.lemmas.List.{length-take-le}
 use Rattle.std.proofs.Math.Seq.{take-add}
+use Rattle.std.specs.Str.{IsAscii}
 use Rattle.ciborium_ll_grammar.specs.declared.spelling.Spelling.{Spelling}
 use Rattle.ciborium_ll_grammar.specs.declared.spelling.Spelling.TheVariants.{Any, Shortest}
 use Rattle.ciborium_ll_grammar.specs.declared.hdr.Header.{Header}
@@ -30,9 +31,9 @@ use Rattle.ciborium_ll_grammar.proofs.TitleLaws.{shortest_some}
 use Rattle.ciborium_ll_text.specs.declared.state.State.{State}
 use Rattle.ciborium_ll_text.specs.declared.state.State.TheVariants as s
 use Rattle.ciborium_ll_text.specs.States.{after}
-use Rattle.ciborium_ll_text.specs.Text.{IsCharacters, IsFront}
+use Rattle.ciborium_ll_text.specs.Text.{IsCharacters}
 use Rattle.ciborium_ll_text.proofs.Lists.{Below, below_rest, below_take}
-use Rattle.ciborium_ll_text.proofs.StateLaws.{after-append, text_ends, text_from}
+use Rattle.ciborium_ll_text.proofs.StateLaws.{ascii_stays, text_from}
 use Rattle.cbor_copier.specs.declared.phase.Phase.{Phase}
 use Rattle.cbor_copier.specs.declared.phase.Phase.TheVariants as p
 use Rattle.cbor_parser.specs.declared.strings.StringKind.{StringKind}
@@ -65,13 +66,13 @@ len_says first len l len_is =
 
 -- ---- text
 
--- If the longest start of bytes that is text leaves no character begun, all bytes are text.
-pub front_ends : (xs front : List ℕ) (state : State) → IsFront xs front (drop (length front) xs)
-    → state ≡ after s.Between (drop (length front) xs) → state ≡ s.Between → IsCharacters xs
-front_ends xs front state is behind between =
-    let rest = drop (length front) xs in
-    text_from xs (ap (λ (z : List ℕ). after s.Between z) is.parts ∙ (after-append s.Between front rest
-    ∙ (ap (λ (z : State). after z rest) (text_ends front is.text) ∙ (sym behind ∙ between))))
+-- ASCII bytes are a text.
+pub ascii_text : (x : List ℕ) → IsAscii x → IsCharacters x
+ascii_text x ascii = text_from x (sym (ascii_stays x ascii))
+
+-- Bytes that end between two characters are a text.
+pub state_text : (x : List ℕ) (state : State) → state ≡ after s.Between x → state ≡ s.Between → IsCharacters x
+state_text x state behind between = text_from x (sym behind ∙ between)
 
 -- ---- the spot after an element
 

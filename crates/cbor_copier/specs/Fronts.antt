@@ -1,5 +1,5 @@
 -- How many bytes of a title or of a character are held back at most.
-use Rattle.std.specs.Prelude.{ℕ, zero, suc, ◌-◌, ◌%◌, Bool, true, false, List, slice_index}
+use Rattle.std.specs.Prelude.{ℕ, zero, ◌-◌, ◌%◌, Bool, true, false, List, slice_index}
 use Rattle.ciborium_ll_grammar.specs.declared.limits.TheConstants.{LONGEST_AFFIX}
 use Rattle.ciborium_ll_grammar.specs.Title.{affix_len}
 use Rattle.ciborium_ll_text.specs.declared.state.State.{State}

@@ -6,7 +6,7 @@ ghost use Rattle.ciborium_ll_grammar.specs.Elements.{IsStrictRun, Mark};
 ghost use Rattle.ciborium_ll_text.specs.Text.{IsCharacters};
 ghost use Rattle.cbor_copier.specs.Plain.{AreKept, BeginsLonger, IsKept, IsLen};
 
-use ciborium_ll_text::state::{State, text_front};
+use ciborium_ll_text::state::State;
 
 /// The length of an element in bytes, title included, by its first byte, with two lines for each major type. It is 0 if
 /// an affix follows the first byte.
@@ -46,12 +46,16 @@ fn len_of(first: u8) -> usize
     usize::from(LENS[first as usize])
 }
 
-/// Returns whether these bytes are UTF-8 by themselves.
+/// Returns whether these bytes are UTF-8 by themselves. It asks whether they are ASCII only if the first one is.
 #[inline(never)]
+#[tactic(auto, using(crate::proofs::PlainLaws::ascii_text, crate::proofs::PlainLaws::state_text))]
 fn is_text(bytes: &[u8]) -> bool
     ensures { result ≡ true → IsCharacters bytes.now }
 {
-    matches!(text_front(bytes, 0, State::Between).1, State::Between)
+    if !bytes.is_empty() && bytes[0] < 0x80 && bytes.is_ascii() {
+        return true;
+    }
+    matches!(State::Between.run_other(bytes), State::Between)
 }
 
 /// Returns whether a title with this affix of one byte is the shortest.
