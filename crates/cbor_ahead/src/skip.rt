@@ -125,7 +125,7 @@ fn skip_rest<'a, T: io::Read>(
         if let Some(count) = items_after(header) {
             return skip_items(decoder, count, nests - 1, depth - 1, buffer);
         }
-        if is_open(header) {
+        if let Header::Array(None) | Header::Map(None) = header {
             return skip_open(decoder, header, nests - 1, depth - 1, buffer);
         }
     }
@@ -188,13 +188,6 @@ fn items_after(header: Header) -> Option<usize>
         Header::Map(Some(pairs)) if pairs <= usize::MAX / 2 => Some(2 * pairs),
         _ => None,
     }
-}
-
-/// Returns whether the header is that of an array or a map of indefinite length.
-fn is_open(header: Header) -> bool
-    ensures { result ≡ true → IsNest header × (item_count header ≡ None) }
-{
-    matches!(header, Header::Array(None) | Header::Map(None))
 }
 
 /// Returns whether a break may stand after some items of an array or a map. In a map of indefinite length it may if

@@ -102,8 +102,8 @@ skip_rest-returns-in-Some g t c =
           c.skip_items.result.1 c.skip_items.result.0 c.skip_items.ensures.skipped);
     }
 
-pub skip_rest-returns-then-is_open : goal.skip_rest-returns-then-is_open
-skip_rest-returns-then-is_open g t c =
+pub skip_rest-returns-in-Array-None : goal.skip_rest-returns-in-Array-None
+skip_rest-returns-in-Array-None g t c =
     let level : suc (c.args.depth - 1) ≡ c.args.depth = omega (arith, c.if-depth-gt0.true) in
     record {
       skipped = λ closable before pulled moves at stays.
