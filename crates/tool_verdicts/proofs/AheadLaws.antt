@@ -1,5 +1,5 @@
 -- Verdicts on an input that is read ahead.
-use Rattle.std.proofs.Common.{◌≡◌, ℕ, ◌≤◌, ◌↔◌, Bool, false, IsTrue, length, Option, Some, None, Result, Ok, Err}
+use Rattle.std.proofs.Common.{◌≡◌, ℕ, ◌+◌, ◌-◌, ◌≤◌, ◌↔◌, Bool, false, IsTrue, length, Option, Some, None, Result, Ok, Err, unwrap_or}
 use Rattle.std.proofs.Common.{refl, ap, ◌∙◌, inl, inr, arith}
 use Rattle.ciborium_ll.specs.Types.Read.{Ghosts}
 use Rattle.ciborium_ll.specs.Types.Decoder.{Decoder}
@@ -77,10 +77,16 @@ module _ {R E : Type 0} (source : Ghosts R E) (depth room : ℕ) (old new : Deco
     said = said ∙ ap (λ (at : ℕ). fault_said error at) there;
   }
 
--- A number below one that is at most the limit is at most the limit.
-pub fewer_most : (most : Option ℕ) (some all : ℕ) → some ≤ all → IsAtMost most all → IsAtMost most some
-fewer_most None some all less few = tt
-fewer_most (Some most) some all less few = omega (arith, less, few)
+-- Items that are at most the limit are at most the number that stands for it.
+pub within_most : (most : Option ℕ) (all items : ℕ) → items ≤ all → IsAtMost most items → items ≤ unwrap_or most all
+within_most None all items within few = within
+within_most (Some most) all items within few = few
+
+-- If there is room for some more items, all are at most the limit.
+pub more_most : (most : Option ℕ) (all items more : ℕ) → IsAtMost most items → more ≤ unwrap_or most all - items
+    → IsAtMost most (items + more)
+more_most None all items more few room = tt
+more_most (Some most) all items more few room = omega (arith, few, room)
 
 -- A test that does not hold.
 pub test_fails : (test : Bool) (P : Type 0) → (IsTrue test ↔ P) → test ≡ false → P → ⊥

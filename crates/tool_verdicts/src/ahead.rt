@@ -1,9 +1,9 @@
 //! The verdict of a check on an input that is read ahead.
 
-ghost use Rattle.std.specs.Prelude.{◌≡◌, ◌≤◌, ◌+◌};
+ghost use Rattle.std.specs.Prelude.{◌≤◌};
 ghost use Rattle.ciborium_ll.specs.Limits.{MOST_LEVELS};
-ghost use Rattle.tool_verdicts.specs.Checking.{SaysOne, SaysVerdict};
-ghost use Rattle.tool_verdicts.specs.Parts.{IsAtMost, SaysPart, SaysSome};
+ghost use Rattle.tool_verdicts.specs.Checking.{SaysOne};
+ghost use Rattle.tool_verdicts.specs.Parts.{SaysPart, SaysSome};
 ghost use Rattle.tool_verdicts.specs.declared.check.TheConstants.{BUFFER_SIZE};
 
 use crate::check::{BUFFER_SIZE, fault_of, single_verdict};
@@ -37,23 +37,8 @@ pub fn wanted_ahead<'a, T: io::Read>(
     }
     match most {
         Some(_) => some_ahead(behind, most, depth),
-        None => all_ahead(behind, one, depth),
-    }
-}
-
-/// Checks one item or all, as `one` says.
-fn all_ahead<'a, T: io::Read>(
-    decoder: Decoder<BufferedReader<'a, T>>,
-    one: bool,
-    depth: usize,
-) -> (Decoder<BufferedReader<'a, T>>, Verdict)
-    requires { depth ≤ MOST_LEVELS }
-    ensures { SaysVerdict ⟦<BufferedReader<'a, T> as Read>⟧ one depth BUFFER_SIZE decoder.entry result.1 result.0 }
-{
-    if one {
-        one_ahead(decoder, depth)
-    } else {
-        some_ahead(decoder, None, depth)
+        None if one => one_ahead(behind, depth),
+        None => some_ahead(behind, None, depth),
     }
 }
 
@@ -94,7 +79,8 @@ fn some_ahead<'a, T: io::Read>(
     let mut items = 0;
     // The loop ends: each item takes a byte, and no offset is greater than `usize::MAX`.
     'items: loop {
-        let (mut passed, count) = pass_items(decoder, left_of(most, items), depth);
+        let left = most.unwrap_or(usize::MAX) - items;
+        let (mut passed, count) = pass_items(decoder, left, depth);
         items += count;
         let place = passed.offset();
         if is_enough(most, items) {
@@ -114,17 +100,5 @@ fn some_ahead<'a, T: io::Read>(
         }
         items += 1;
         decoder = next;
-    }
-}
-
-/// Returns how many more items are wanted at most.
-fn left_of(most: Option<usize>, items: usize) -> usize
-    requires { IsAtMost most items }
-    ensures most { IsAtMost most (items + result) }
-    ensures fits { items + result ≤ usize.MAX }
-{
-    match most {
-        Some(most) => most - items,
-        None => usize::MAX - items,
     }
 }

@@ -1,10 +1,9 @@
-use Rattle.std.proofs.Common.{◌≡◌, ◌+◌, ◌-◌, ◌<◌, ◌∙◌, length, Some, Err, arith, ap, refl, rules}
+use Rattle.std.proofs.Common.{◌≡◌, ◌+◌, ◌-◌, length, Some, Err, arith, refl, rules}
 use Rattle.cbor_skip.specs.Skipping.{ReadsCounted, ReadsItem, SkipsItem, allowed_by}
 use Rattle.cbor_ahead.proofs.PassLaws.{more_counted, none_counted, one_counted}
 use Rattle.cbor_dump.proofs.ItemRows.{items_counted}
 use Rattle.ciborium_ll_streams.specs.contracts.buffered.BufferedReaderRead.TheImpl.{ghosts}
-use Rattle.tool_verdicts.specs.Parts.{IsAtMost}
-use Rattle.tool_verdicts.proofs.AheadLaws.{fewer_most, says_enough, says_stopped, test_fails}
+use Rattle.tool_verdicts.proofs.AheadLaws.{more_most, says_enough, says_stopped, test_fails, within_most}
 use Rattle.tool_verdicts.proofs.PartLaws.{below_by, least_of, up_to}
 use Rattle.tool_verdicts.proofs.ahead.some_ahead.Goals as goal
 
@@ -16,8 +15,12 @@ items-init g c = record {
   buffer = refl;
 }
 
+pub overflow_sub-left : goal.overflow_sub-left
+overflow_sub-left g c =
+    rw c.unwrap_or.ensures (within_most c.args.most _ c.items.items (omega arith) c.items.invariant.few)
+
 pub overflow_add-items : goal.overflow_add-items
-overflow_add-items g c = omega (arith, c.left_of.ensures.fits, c.pass_items-passed.ensures.most)
+overflow_add-items g c = omega (arith, c.pass_items-passed.ensures.most)
 
 pub items-preserved : goal.items-preserved
 items-preserved g c =
@@ -29,8 +32,8 @@ items-preserved g c =
     c.pass_items-passed.ensures.reads in
     let item : ReadsItem source c.args.depth passed c.skip_one-next.result.0 =
     rw c.offset-place.ensures.same at (rw c.in_default.is at c.skip_one-next.ensures.skipped) in
-    let few = fewer_most c.args.most (c.items.items + taken) _ (omega (arith, c.pass_items-passed.ensures.most))
-    c.left_of.ensures.most in
+    let few = more_most c.args.most _ c.items.items taken i.few (rw c.unwrap_or.ensures at
+    c.pass_items-passed.ensures.most) in
     let other = test_fails c.is_enough.result _ c.is_enough.ensures c.if-is_enough.false in
     record {
       few = up_to c.args.most (c.items.items + taken) (below_by c.args.most (c.items.items + taken) other few);
@@ -97,8 +100,8 @@ returns-in-Err g c =
     let read : ReadsCounted source (c.items.items + taken) c.args.depth c.args.decoder passed =
     more_counted source c.args.depth c.items.items taken c.args.decoder c.items.decoder passed i.reads
     c.pass_items-passed.ensures.reads in
-    let few = fewer_most c.args.most (c.items.items + taken) _ (omega (arith, c.pass_items-passed.ensures.most))
-    c.left_of.ensures.most in
+    let few = more_most c.args.most _ c.items.items taken i.few (rw c.unwrap_or.ensures at
+    c.pass_items-passed.ensures.most) in
     let other = test_fails c.is_enough.result _ c.is_enough.ensures c.if-is_enough.false in
     let fails : SkipsItem source c.args.depth 512 passed (Err c.in-Err.error) new =
     rw c.offset-stop.ensures.same (rw (c.offset-place.ensures.same, c.in-Err.is, i.buffer) at
