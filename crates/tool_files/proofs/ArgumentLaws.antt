@@ -1,5 +1,5 @@
 -- The requests of a command line, word by word.
-use Rattle.std.proofs.Common.{◌≡◌, ℕ, false, List, [], ◌∷◌, ◌++◌, inl, inr}
+use Rattle.std.proofs.Common.{◌≡◌, ◌⊎◌, ℕ, false, List, [], ◌∷◌, ◌++◌, inl, inr}
 use Rattle.std.proofs.Common.{codes, refl, ap, sym, subst, ◌∙◌, arith, append_assoc, map}
 use Rattle.std.proofs.Common.{◌≤◌, length, Bor, Result, Ok, Err, IfOk, IfErr}
 use Rattle.std.proofs.lemmas.List.{map-append}
@@ -294,21 +294,18 @@ asks_once word old words a b (hyphens name rest is two shown) other =
 asks_once word old words a b (helps name rest is is-help shown) other =
     shown ∙ sym (asks_help word old name words rest is b is-help other)
 
--- Words with a needless order ask for nothing.
-pub needless_asks_nothing : (word : Word) (words : List (String Global)) (choices : Choices) (files : List (List ℕ))
-    → AsksWith word default_choices words (look choices files) → HasNeedlessOrder word choices → (wanted : Wanted)
-    → AsksOf word words wanted → ⊥
-needless_asks_nothing word words choices files asks needless wanted (wish, other, taken, is) =
+-- Words with a needless order, or with options that exclude each other, ask for nothing.
+pub refused_asks_nothing : (word : Word) (words : List (String Global)) (choices : Choices) (files : List (List ℕ))
+    → AsksWith word default_choices words (look choices files) → HasNeedlessOrder word choices ⊎ HasClash choices
+    → (wanted : Wanted) → AsksOf word words wanted → ⊥
+refused_asks_nothing word words choices files asks refused wanted (wish, other, taken, is) =
     let same = asks_once word default_choices words wish (look choices files) other asks in
-    (subst (λ (z : Wish). IsTaken word z) same taken).0 needless
-
--- Words with options that exclude each other ask for nothing.
-pub clash_asks_nothing : (word : Word) (words : List (String Global)) (choices : Choices) (files : List (List ℕ))
-    → AsksWith word default_choices words (look choices files) → HasClash choices → (wanted : Wanted)
-    → AsksOf word words wanted → ⊥
-clash_asks_nothing word words choices files asks clash wanted (wish, other, taken, is) =
-    let same = asks_once word default_choices words wish (look choices files) other asks in
-    (subst (λ (z : Wish). IsTaken word z) same taken).1 clash
+    let none : IsTaken word (look choices files) = subst (λ (z : Wish). IsTaken word z) same taken in
+    either none.0 none.1 refused
+  where
+    either : {A B : Type 0} → (A → ⊥) → (B → ⊥) → A ⊎ B → ⊥
+    either first second (inl a) = first a
+    either first second (inr b) = second b
 
 pub empty_of : (words : List (String Global)) → length words ≡ 0 → words ≡ []
 empty_of [] none = refl

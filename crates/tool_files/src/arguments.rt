@@ -1,7 +1,7 @@
 //! The requests of the program's arguments.
 
 ghost use Rattle.std.specs.Prelude.{◌≡◌, ◌≤◌, ◌+◌, ◌++◌, ◌↔◌, ℕ, List, String, [], false, length, map, string_bytes};
-ghost use Rattle.std.specs.Prelude.{IfErr, IfNone, IfOk, IfSome, IsTrue, vec_capacity, vec_len};
+ghost use Rattle.std.specs.Prelude.{◌⊎◌, IfErr, IfNone, IfOk, IfSome, IsSome, IsTrue, vec_capacity, vec_len};
 ghost use Rattle.std.specs.declared.alloc.Global.{Global};
 ghost use Rattle.tool_files.specs.Arguments.{AsksAbout, AsksFor, AsksOf, IsHelp, IsOption, TakesValue, Wanted, Wish};
 ghost use Rattle.tool_files.specs.Arguments.{IsCount, IsHelpWord, NamesTopic, choices_of, texts, wanted_by};
@@ -319,19 +319,21 @@ impl Options {
         }
     }
 
-    /// Returns whether an order of keys was given to a check that doesn't look at it.
-    fn has_needless_order(&self, word: Word) -> bool
-        ensures { IsTrue result ↔ HasNeedlessOrder word (choices_of self.now) }
+    /// Returns why these options ask for nothing of a word, if they do: an order of keys for a check that doesn't look
+    /// at it, or two options that exclude each other.
+    fn refusal(&self, word: Word) -> Option<Refusal<'static>>
+        ensures some { IsSome result → HasNeedlessOrder word (choices_of self.now) ⊎ HasClash (choices_of self.now) }
+        ensures none { IfNone result ((HasNeedlessOrder word (choices_of self.now) → ⊥)
+            × (HasClash (choices_of self.now) → ⊥)) }
     {
-        matches!(word, Word::Check) && self.order.is_some() && !self.deterministic
-    }
-
-    /// Returns whether options that exclude each other were given.
-    fn has_clash(&self) -> bool
-        ensures { IsTrue result ↔ HasClash (choices_of self.now) }
-    {
+        if matches!(word, Word::Check) && self.order.is_some() && !self.deterministic {
+            return Some(Refusal::NeedlessOrder);
+        }
         let is_part = self.items.is_some() || self.index;
-        self.one && is_part || self.deterministic && (is_part || self.skip > 0)
+        if self.one && is_part || self.deterministic && (is_part || self.skip > 0) {
+            return Some(self.clash());
+        }
+        None
     }
 
     /// Returns two options that exclude each other, if there are any.
@@ -496,13 +498,10 @@ fn asked_of<'w>(
     if options.take(word, words, files)? {
         return Ok(Request::Help(Topic::Word(word)));
     }
-    if options.has_needless_order(word) {
-        return Err(Refusal::NeedlessOrder);
+    match options.refusal(word) {
+        Some(refusal) => Err(refusal),
+        None => Ok(Request::Look { word, options }),
     }
-    if options.has_clash() {
-        return Err(options.clash());
-    }
-    Ok(Request::Look { word, options })
 }
 
 /// Returns the request of a first word that is no word for a look at files.

@@ -1,19 +1,11 @@
-use Rattle.std.proofs.Common.{rules}
-use Rattle.tool_files.specs.Arguments.{AsksWith, HasClash, HasNeedlessOrder, choices_of, default_choices, look, texts}
-use Rattle.tool_files.proofs.ArgumentLaws.{clash_asks_nothing, needless_asks_nothing}
+use Rattle.std.proofs.Common.{refl, rules}
+use Rattle.tool_files.specs.Arguments.{AsksWith, choices_of, default_choices, look, texts}
+use Rattle.tool_files.proofs.ArgumentLaws.{refused_asks_nothing}
 use Rattle.tool_files.proofs.arguments.asked_of.Goals as goal
 
-pub returns-then-has_needless_order-clause-err : goal.returns-then-has_needless_order-clause-err
-returns-then-has_needless_order-clause-err c =
-    let needless : HasNeedlessOrder c.args.word (choices_of c.take.new.self) = search rules in
+pub returns-in-Some-clause-err : goal.returns-in-Some-clause-err
+returns-in-Some-clause-err c =
     let asks : AsksWith c.args.word default_choices c.args.words.now
     (look (choices_of c.take.new.self) (texts c.take.new.files.items)) = search rules in
-    needless_asks_nothing c.args.word c.args.words.now (choices_of c.take.new.self) (texts c.take.new.files.items) asks
-    needless
-
-pub returns-then-has_clash-clause-err : goal.returns-then-has_clash-clause-err
-returns-then-has_clash-clause-err c =
-    let clash : HasClash (choices_of c.take.new.self) = search rules in
-    let asks : AsksWith c.args.word default_choices c.args.words.now
-    (look (choices_of c.take.new.self) (texts c.take.new.files.items)) = search rules in
-    clash_asks_nothing c.args.word c.args.words.now (choices_of c.take.new.self) (texts c.take.new.files.items) asks clash
+    refused_asks_nothing c.args.word c.args.words.now (choices_of c.take.new.self) (texts c.take.new.files.items) asks
+    (rw c.in-Some.is at c.refusal.ensures.some refl)
