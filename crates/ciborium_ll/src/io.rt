@@ -4,6 +4,6 @@ pub use ciborium_ll_io::io::{
     Discard, EndOfFile, Failures, OutOfSpace, Read, SliceReader, SliceWriter, Write,
 };
 pub use ciborium_ll_streams::{
-    BufferedReader, BufferedWriter, FaultKept, OutOfMemory, ReadFault, StdReader, StdWriter,
-    VecWriter, WriteFault,
+    BufferedReader, BufferedWriter, FaultKept, KeepingReader, OutOfMemory, ReadFault, StdReader,
+    StdWriter, VecWriter, WriteFault,
 };

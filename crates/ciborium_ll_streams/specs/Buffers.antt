@@ -1,9 +1,10 @@
--- The bytes that a reader and a writer with a lent slice hold, the facts that they tell, and the fault that they keep.
+-- The bytes that readers and a writer with a lent slice hold, the facts that they tell, and the fault that they keep.
 use Rattle.std.specs.Prelude.{◌≡◌, ℕ, ◌+◌, ◌-◌, ◌<◌, ◌≤◌, Bool, false, List, [], ◌++◌, None, length, slice_range}
 use Rattle.std.specs.declared.option.Option.{Option}
-use Rattle.std.specs.Io.KnownBytes.{append_known, prepend_known}
+use Rattle.std.specs.Io.KnownBytes.{Consumes, append_known, prepend_known}
 use Rattle.ciborium_ll_streams.specs.declared.buffered.BufferedReader.{BufferedReader}
 use Rattle.ciborium_ll_streams.specs.declared.buffered.BufferedWriter.{BufferedWriter}
+use Rattle.ciborium_ll_streams.specs.declared.keeping.KeepingReader.{KeepingReader}
 use Rattle.ciborium_ll_streams.specs.declared.streams.ReadFault.{ReadFault}
 use Rattle.ciborium_ll_streams.specs.declared.streams.WriteFault.{WriteFault}
 use Rattle.ciborium_ll_streams.specs.declared.window.Window.{Window}
@@ -49,6 +50,42 @@ module _ {T : Type 0} where
   -- The number of reads that failed so far: 2 after two reads past the end.
   abbrev pub buffered_read_failures : BufferedReader T → ℕ
   buffered_read_failures r = r.failures.count
+
+  -- The inner reader, in its present state. If it gave `01 02` of `01 02 03`, it has `03` left.
+  abbrev pub keeping_source : KeepingReader T → T
+  keeping_source r = r.source
+
+  -- The bytes that came and that no caller got: `02` if `01 02` came and a caller got `01`.
+  abbrev pub keeping_held : KeepingReader T → List ℕ
+  keeping_held r = held r.window
+
+  -- The number of bytes of the lent slice: 4 for `00 01 02 00`.
+  abbrev pub keeping_capacity : KeepingReader T → ℕ
+  keeping_capacity r = window_capacity r.window
+
+  -- The bytes to come, if the inner reader tells its bytes: those that are held, and then its own. `02` held and `03` in
+  -- the inner reader are `02 03`.
+  abbrev pub keeping_ahead : (T → Option (List ℕ)) → KeepingReader T → Option (List ℕ)
+  keeping_ahead remaining r = prepend_known (held r.window) (remaining r.source)
+
+  -- Why the inner reader failed, if it did: `End` after a call that gave 0 bytes.
+  abbrev pub keeping_fault : KeepingReader T → Option ReadFault
+  keeping_fault r = r.fault
+
+  -- The reader is never steady: the answer is `false`.
+  abbrev pub keeping_steady : KeepingReader T → Bool
+  keeping_steady r = false
+
+  -- The number of reads that failed so far: 1 after a read of three bytes from `01 02`.
+  abbrev pub keeping_failures : KeepingReader T → ℕ
+  keeping_failures r = r.failures.count
+
+  -- These bytes came after those that are held, and the inner reader consumed them. If `01` was held and `02` came,
+  -- `01 02` is held.
+  pub record HoldsMore (remaining : T → Option (List ℕ)) (old new : KeepingReader T) : Type 0 where
+    pub bytes : List ℕ
+    pub held : keeping_held new ≡ keeping_held old ++ bytes
+    pub consumed : Consumes (remaining (keeping_source old)) (remaining (keeping_source new)) bytes
 
   -- The inner writer. If `03` of `01 02 03` is kept back, it has `01 02`.
   abbrev pub buffered_sink : BufferedWriter T → T

@@ -14,7 +14,7 @@ use crate::window::Window;
 use ciborium_ll_io::io::{Failures, Read, Write};
 use std::io;
 
-/// A call failed. The `BufferedReader` or `BufferedWriter` keeps the fault.
+/// A call failed. The reader or writer keeps the fault.
 #[derive(Debug, Drop)]
 pub struct FaultKept;
 

@@ -5,11 +5,13 @@
 #![tactic(auto)]
 
 mod buffered;
+mod keeping;
 pub mod memory;
 mod messages;
 mod streams;
 mod window;
 
 pub use self::buffered::{BufferedReader, BufferedWriter, FaultKept};
+pub use self::keeping::KeepingReader;
 pub use self::memory::{OutOfMemory, VecWriter};
 pub use self::streams::{ReadFault, StdReader, StdWriter, WriteFault};

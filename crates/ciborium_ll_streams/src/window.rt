@@ -1,6 +1,6 @@
 //! Bytes that wait in a part of a slice.
 
-ghost use Rattle.std.specs.Prelude.{◌≡◌, ◌+◌, ◌≤◌, ◌<◌, ◌++◌, [], IfOk, OnErr, length, take};
+ghost use Rattle.std.specs.Prelude.{◌≡◌, ◌+◌, ◌≤◌, ◌<◌, ◌++◌, ℕ, List, [], IfOk, OnErr, length, take};
 ghost use Rattle.std.specs.Io.KnownBytes.{Consumes, IsAtEnd, Keeps};
 
 use ciborium_ll_io::io::copy_chunk;
@@ -106,35 +106,35 @@ impl<'a> Window<'a> {
         self.end = end;
     }
 
-    /// Moves an empty window to the front of the slice.
+    /// Moves the bytes that it holds to the front of the slice, so that all room is after them.
     pub(super) fn restart(&mut self)
-        requires { held self.old ≡ [] }
-        ensures held { held self.new ≡ [] }
-        ensures room { window_room self.new ≡ window_capacity self.new }
+        ensures held { held self.new ≡ held self.old }
+        ensures room { length (held self.old) + window_room self.new ≡ window_capacity self.new }
         ensures capacity { window_capacity self.new ≡ window_capacity self.old }
     {
+        self.space.copy_within(self.start..self.end, 0);
+        self.end -= self.start;
         self.start = 0;
-        self.end = 0;
     }
 
-    /// Reads once into an empty window, and returns the number of bytes read. `Ok(0)` means that the reader has ended.
+    /// Reads once, to the bytes that it holds, and returns the number of bytes read. `Ok(0)` means that the reader has
+    /// ended, or that the window holds as many bytes as the slice has.
     ///
     /// # Errors
     ///
     /// - The reader's error: the read failed.
     pub(super) fn fill<R: io::Read>(&mut self, from: &mut R) -> io::Result<usize>
-        requires held { held self.old ≡ [] }
-        requires capacity { 0 < window_capacity self.old }
-        ensures count { IfOk result (λ n. n ≡ length (held self.new)) }
-        ensures bytes { IfOk result (λ _. Consumes (R.remaining from.old) (R.remaining from.new) (held self.new)) }
-        ensures end { IfOk result (λ n. n ≡ 0 → IsAtEnd (R.remaining from.new)) }
-        ensures err { OnErr result (held self.new ≡ []) }
+        ensures bytes { IfOk result (λ n. (bytes : List ℕ) × (held self.new ≡ held self.old ++ bytes)
+            × (length bytes ≡ n) × Consumes (R.remaining from.old) (R.remaining from.new) bytes) }
+        ensures end { IfOk result (λ n. n ≡ 0 → length (held self.old) < window_capacity self.old
+            → IsAtEnd (R.remaining from.new)) }
+        ensures err { OnErr result (held self.new ≡ held self.old) }
         ensures keeps { OnErr result (Keeps (R.remaining from.old) (R.remaining from.new)) }
         ensures same { window_capacity self.new ≡ window_capacity self.old }
     {
         self.restart();
-        let count = from.read(self.space)?;
-        self.end = count;
+        let count = from.read(&mut self.space[self.end..])?;
+        self.end += count;
         Ok(count)
     }
 }

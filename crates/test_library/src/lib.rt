@@ -21,6 +21,8 @@ mod exactly;
 #[cfg(test)]
 mod first_bytes;
 #[cfg(test)]
+mod keeping;
+#[cfg(test)]
 mod messages;
 #[cfg(test)]
 mod pieces;

@@ -4,7 +4,6 @@ pub mod EmbedLaws
 pub mod FenceLaws
 pub mod InputLaws
 pub mod PartLaws
-pub mod PatientLaws
 pub mod RecodeItems
 pub mod RecodeLaws
 pub mod RecodePlaces

@@ -8,7 +8,6 @@ use Rattle.ciborium_ll.specs.Items.{AreItems}
 use Rattle.cbor_skip.specs.declared.SkipError.{SkipError}
 use Rattle.cbor_skip.specs.Skipping.{ReadsCounted, StopsCounted, allowed_by}
 use Rattle.cbor_skip.proofs.StrictnessLaws.{strict_settled}
-use Rattle.cbor_dump.specs.Takings.{IsInMode}
 use Rattle.tool_files.proofs.InputLaws.{consumed_rest}
 
 -- If no header waits, the bytes to come are those of the reader.
@@ -29,10 +28,6 @@ module _ {R E : Type 0} (source : Ghosts R E) (allowed : Spelling) (start : R) (
           | inl same ↦ ap (λ (d : Decoder R). d.waiting) same.1 ∙ fresh.none_waits
           | inr none ↦ none
         ]
-
-    -- The decoder is as strict as at its start.
-    pub mode_then : IsInMode allowed new
-    mode_then = record { none_waits = none_waits_then; mode = reads.passed.mode ∙ fresh.mode }
 
     -- The items stand in the spelling of the decoder.
     pub items_then : AreItems allowed depth count reads.items

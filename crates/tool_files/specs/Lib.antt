@@ -8,6 +8,5 @@ pub mod Encodes
 pub mod Fences
 pub mod Inputs
 pub mod Indexes
-pub mod Patience
 pub mod Recodes
 pub mod Shows

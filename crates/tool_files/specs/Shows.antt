@@ -4,12 +4,13 @@ use Rattle.std.specs.declared.io.Error.{Error}
 use Rattle.ciborium_ll_grammar.specs.declared.spelling.Spelling.{Spelling}
 use Rattle.ciborium_ll.specs.Types.BufferedReader.{BufferedReader}
 use Rattle.ciborium_ll.specs.Types.Decoder.{Decoder}
+use Rattle.ciborium_ll.specs.Types.KeepingReader.{KeepingReader}
 use Rattle.ciborium_ll.specs.Types.Read.{Ghosts}
 use Rattle.ciborium_ll.specs.Types.ReadFault.{ReadFault}
 use Rattle.ciborium_ll.specs.Types.Write.{Ghosts as Sink}
 use Rattle.ciborium_ll.specs.Decoding.{IsFreshAs}
 use Rattle.ciborium_ll.specs.Sides.{sides}
-use Rattle.ciborium_ll_streams.specs.Buffers.{buffered_read_fault}
+use Rattle.ciborium_ll_streams.specs.Buffers.{buffered_read_fault, keeping_fault, keeping_held, keeping_source}
 use Rattle.cbor_skip.specs.declared.SkipError.{SkipError}
 use Rattle.cbor_skip.specs.Skipping.{StopsCounted}
 use Rattle.cbor_dump.specs.Checking.{ReadsAsCheck}
@@ -26,10 +27,8 @@ use Rattle.tool_verdicts.specs.declared.items.Form.TheVariants as f
 use Rattle.tool_verdicts.specs.declared.verdict.Verdict.{Verdict}
 use Rattle.tool_files.specs.Fences.{IsFenced, fence_depth, fence_source}
 use Rattle.tool_files.specs.Inputs.{BeginsInput}
-use Rattle.tool_files.specs.Patience.{patient_fault, patient_held, patient_source}
 use Rattle.tool_files.specs.declared.fence.Fence.{Fence}
 use Rattle.tool_files.specs.declared.options.Options.{Options}
-use Rattle.tool_files.specs.declared.patient.Patient.{Patient}
 
 -- The form of items in notation, as the options choose it. `--pretty` sets the indented layout, `--exact` the exact
 -- notation, and `--embedded` the byte strings that are shown as items.
@@ -76,50 +75,50 @@ module _ {R E : Type 0} (reads : Ghosts R E) where
     pub said : result ≡ dump_said outcome (fault_of new.reader) offset
 
 -- Why the reader within a fence failed, if it did: `End` after a call that gave 0 bytes.
-abbrev pub fenced_fault : {T : Type 0} → Fence (Patient T) → Option ReadFault
-fenced_fault f = patient_fault (fence_source f)
+abbrev pub fenced_fault : {T : Type 0} → Fence (KeepingReader T) → Option ReadFault
+fenced_fault f = keeping_fault (fence_source f)
 
 -- All items that the decoder reads were dumped: both of `01 02`.
-abbrev pub DumpsAll : {T E : Type 0} → Ghosts (Patient T) E → ℕ → Decoder (Patient T) → Result (Unit {0}) Verdict → Type 0
-DumpsAll reads depth old result = DumpsRows reads patient_fault depth old result
+abbrev pub DumpsAll : {T E : Type 0} → Ghosts (KeepingReader T) E → ℕ → Decoder (KeepingReader T) → Result (Unit {0}) Verdict → Type 0
+DumpsAll reads depth old result = DumpsRows reads keeping_fault depth old result
 
 -- The items up to a fence were dumped: one of `01 02`, if the fence stands after one item. The fence stands over the
 -- decoder's reader, and the offset goes on.
-pub record DumpsSome {T E : Type 0} (reads : Ghosts (Fence (Patient T)) E) (allowed : Spelling) (items depth : ℕ)
-    (old : Decoder (Patient T)) (result : Result (Unit {0}) Verdict) : Type 0 where
-  pub fence : Fence (Patient T)
+pub record DumpsSome {T E : Type 0} (reads : Ghosts (Fence (KeepingReader T)) E) (allowed : Spelling) (items depth : ℕ)
+    (old : Decoder (KeepingReader T)) (result : Result (Unit {0}) Verdict) : Type 0 where
+  pub fence : Fence (KeepingReader T)
   pub is_fenced : IsFenced items [] fence
   pub depth_is : fence_depth fence ≡ depth
   pub source : fence_source fence ≡ old.reader
-  pub start : Decoder (Fence (Patient T))
+  pub start : Decoder (Fence (KeepingReader T))
   pub fresh : IsFreshAs allowed fence old.offset start
   pub rows : DumpsRows reads fenced_fault depth start result
 
-module _ {T E F : Type 0} (reads : Ghosts (Patient T) E) (fences : Ghosts (Fence (Patient T)) F) where
+module _ {T E F : Type 0} (reads : Ghosts (KeepingReader T) E) (fences : Ghosts (Fence (KeepingReader T)) F) where
   -- All items were dumped, or with a limit the items up to a fence. Over `01 02` these are both, and with a limit of 1
   -- it is `01`.
-  abbrev pub DumpsRest : Spelling → Option ℕ → ℕ → Decoder (Patient T) → Result (Unit {0}) Verdict → Type 0
+  abbrev pub DumpsRest : Spelling → Option ℕ → ℕ → Decoder (KeepingReader T) → Result (Unit {0}) Verdict → Type 0
   DumpsRest allowed None depth old result = DumpsAll reads depth old result
   DumpsRest allowed (Some items) depth old result = DumpsSome fences allowed items depth old result
 
   -- The items after the first `skip` items were dumped, or the result has the verdict on a fault among these. If one
   -- item of `01 02` is passed over, the row of `02` has the offset 1.
-  pub data DumpsPart (allowed : Spelling) (skip : ℕ) (most : Option ℕ) (depth : ℕ) (old : Decoder (Patient T))
+  pub data DumpsPart (allowed : Spelling) (skip : ℕ) (most : Option ℕ) (depth : ℕ) (old : Decoder (KeepingReader T))
       (result : Result (Unit {0}) Verdict) : Type 0 where
-    dumps_none : (error : SkipError E) (new : Decoder (Patient T))
+    dumps_none : (error : SkipError E) (new : Decoder (KeepingReader T))
         → StopsCounted reads skip depth BUFFER_SIZE old error new
-        → result ≡ Err (unless_failed (patient_fault new.reader) (fault_said error new.offset))
+        → result ≡ Err (unless_failed (keeping_fault new.reader) (fault_said error new.offset))
         → DumpsPart allowed skip most depth old result
-    dumps_rest : (between : Decoder (Patient T)) → PassesOver reads skip depth old between
+    dumps_rest : (between : Decoder (KeepingReader T)) → PassesOver reads skip depth old between
         → DumpsRest allowed most depth between result → DumpsPart allowed skip most depth old result
 
   -- The input was dumped from its start, and the result has the verdict after the rows. After the row of `01` in `01 1c`
   -- it has `syntax 1`.
   pub record DumpsInput (allowed : Spelling) (skip : ℕ) (most : Option ℕ) (depth : ℕ) (reader : T)
       (result : Result (Unit {0}) Verdict) : Type 0 where
-    pub start : Patient T
-    pub source : patient_source start ≡ reader
-    pub none_held : patient_held start ≡ []
-    pub old : Decoder (Patient T)
+    pub start : KeepingReader T
+    pub source : keeping_source start ≡ reader
+    pub none_held : keeping_held start ≡ []
+    pub old : Decoder (KeepingReader T)
     pub fresh : IsFreshAs allowed start 0 old
     pub part : DumpsPart allowed skip most depth old result

@@ -12,14 +12,14 @@ ghost use Rattle.tool_files.specs.Shows.{DumpsAll, DumpsInput, DumpsSome, Prints
 ghost use Rattle.ciborium_ll.specs.Limits.{MOST_LEVELS};
 
 use crate::arguments::Options;
+use crate::check::ROOM;
 use crate::fence::Fence;
 use crate::nested::{Asked, Holder, Strings};
-use crate::patient::Patient;
 use crate::shared::{Prompt, Shared};
 use cbor_dump::counted::skip_items;
 use cbor_dump::dump::{DumpError, dump};
 use cbor_dump::rows::{Meaning, Row, Rows};
-use ciborium_ll::io::Read;
+use ciborium_ll::io::{KeepingReader, Read};
 use ciborium_ll::{Decoder, Spelling};
 use std::alloc::{AllocError, Global};
 use std::cell::RefCell;
@@ -261,52 +261,33 @@ fn dump_rows<R: io::Read + Drop, W: io::Write>(
     holder: &mut Page<'_, W>,
     options: Options,
 ) -> Result<(), Verdict>
-    ensures { DumpsInput ⟦<Patient<R> as Read>⟧ ⟦<Fence<Patient<R>> as Read>⟧ options.spelling
-        options.skip options.items options.depth reader result }
+    ensures { DumpsInput ⟦<KeepingReader<'static, R> as Read>⟧ ⟦<Fence<KeepingReader<'static, R>> as Read>⟧
+        options.spelling options.skip options.items options.depth reader result }
 {
-    let mut decoder = decoder_of(Patient::new(reader), options.spelling);
+    let mut ahead = [0; ROOM];
+    let reader = KeepingReader::new(reader, &mut ahead);
+    let mut decoder = decoder_of(reader, options.spelling);
     let mut buffer = [0; BUFFER_SIZE];
     if let Err(error) = skip_items(&mut decoder, options.skip, options.depth, &mut buffer) {
         let verdict = fault_of(error, decoder.offset());
-        let (_, fault) = decoder.into_inner().into_parts();
+        let (_, _, fault) = decoder.into_inner().into_parts();
         return Err(failed_or(fault, verdict));
     }
     match options.items {
-        None => dump_all(decoder, holder, options),
-        Some(items) => dump_some(decoder, items, holder, options),
+        None => {
+            let (outcome, offset) = print_all(&mut decoder, holder, options);
+            let (_, _, fault) = decoder.into_inner().into_parts();
+            dump_verdict(outcome, fault, offset)
+        }
+        Some(items) => {
+            let start = decoder.offset();
+            let fence = Fence::new(decoder.into_inner(), items, options.depth);
+            let mut fenced = Decoder::with_spelling(fence, options.spelling, start);
+            let (outcome, offset) = print_all(&mut fenced, holder, options);
+            let (_, _, fault) = fenced.into_inner().into_inner().into_parts();
+            dump_verdict(outcome, fault, offset)
+        }
     }
-}
-
-/// Prints the rows of all bytes that a decoder reads.
-fn dump_all<R: io::Read + Drop, W: io::Write>(
-    mut decoder: Decoder<Patient<R>>,
-    holder: &mut Page<'_, W>,
-    options: Options,
-) -> Result<(), Verdict>
-    requires alike { IsInMode options.spelling decoder }
-    ensures { DumpsAll ⟦<Patient<R> as Read>⟧ options.depth decoder result }
-{
-    let (outcome, offset) = print_all(&mut decoder, holder, options);
-    let (_, fault) = decoder.into_inner().into_parts();
-    dump_verdict(outcome, fault, offset)
-}
-
-/// Prints the rows of at most as many items as `items` of those that a decoder reads.
-fn dump_some<R: io::Read + Drop, W: io::Write>(
-    mut decoder: Decoder<Patient<R>>,
-    items: usize,
-    holder: &mut Page<'_, W>,
-    options: Options,
-) -> Result<(), Verdict>
-    ensures { DumpsSome ⟦<Fence<Patient<R>> as Read>⟧ options.spelling items options.depth decoder
-        result }
-{
-    let start = decoder.offset();
-    let fence = Fence::new(decoder.into_inner(), items, options.depth);
-    let mut decoder = Decoder::with_spelling(fence, options.spelling, start);
-    let (outcome, offset) = print_all(&mut decoder, holder, options);
-    let (_, fault) = decoder.into_inner().into_inner().into_parts();
-    dump_verdict(outcome, fault, offset)
 }
 
 /// Prints the rows of the bytes that a decoder reads, and the bytes that are left of a title or of a body after them.

@@ -22,7 +22,6 @@ pub mod input;
 pub mod items;
 mod nested;
 mod options;
-mod patient;
 pub mod progress;
 pub mod recode;
 mod request;

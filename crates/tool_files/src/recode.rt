@@ -8,19 +8,18 @@ ghost use Rattle.ciborium_ll_grammar.specs.Items.{AreItems};
 ghost use Rattle.ciborium_ll_streams.specs.Streams.{stream_sink};
 ghost use Rattle.tool_files.specs.declared.recode.TheConstants.{AROUND};
 ghost use Rattle.tool_files.specs.Recodes.{AnswersItems, CopiesItems, TellsAll, TellsSome, end_said, fault_place};
-ghost use Rattle.tool_files.specs.Patience.{rest_ahead};
 ghost use Rattle.tool_files.specs.Recodes.{CopiesPart, IsLeft, fault_said, part_said};
 
 use crate::check::ROOM;
 use crate::options::Options;
-use crate::patient::{Patient, Rest};
 use cbor_checker::Fault;
 use cbor_dump::counted::skip_items;
 use cbor_item_copier::{ItemCopier, Progress};
 use ciborium_ll::Spelling;
-use ciborium_ll::io::{StdWriter, Write, WriteFault};
+use ciborium_ll::io::{KeepingReader, StdWriter, Write, WriteFault};
 use ciborium_ll::limits::LONGEST_AFFIX;
 use std::io;
+use std::io::{Chain, Read as _};
 use tool_verdicts::check::{BUFFER_SIZE, decoder_of, failed_or, fault_of};
 use tool_verdicts::verdict::Verdict;
 
@@ -241,19 +240,20 @@ pub fn copy_part<R: io::Read + Drop, W: io::Write>(
     options: Options,
 ) -> (W, Result<(), Verdict>)
     ensures { (due written : List ℕ) → R.remaining reader ≡ Some due → W.contents writer ≡ Some written
-        → CopiesPart (rest_ahead R.remaining) W.contents options.skip options.depth options.items due written result.1
-        result.0 }
+        → CopiesPart ⟦<Chain<&'static [u8], R> as io::Read>⟧.remaining W.contents options.skip options.depth
+        options.items due written result.1 result.0 }
 {
-    let mut decoder = decoder_of(Patient::new(reader), Spelling::Any);
+    let mut ahead = [0; ROOM];
+    let mut decoder = decoder_of(KeepingReader::new(reader, &mut ahead), Spelling::Any);
     let mut buffer = [0; BUFFER_SIZE];
     if let Err(error) = skip_items(&mut decoder, options.skip, options.depth, &mut buffer) {
         let verdict = fault_of(error, decoder.offset());
-        let (_, fault) = decoder.into_inner().into_parts();
+        let (_, _, fault) = decoder.into_inner().into_parts();
         return (writer, Err(failed_or(fault, verdict)));
     }
     let start = decoder.offset();
-    let rest = Rest::new(decoder.into_inner());
-    let (_, writer, copied) = copy_items(rest, writer, options);
+    let (source, held, _) = decoder.into_inner().into_parts();
+    let (_, writer, copied) = copy_items(held.chain(source), writer, options);
     (writer, moved(copied, start))
 }
 

@@ -1,13 +1,12 @@
 use Rattle.std.proofs.Common.{rules, Err, ap}
 use Rattle.tool_files.specs.Shows.{dumps_none, dumps_rest}
-use Rattle.tool_files.proofs.PartLaws.{mode_then}
 use Rattle.tool_files.proofs.dump.dump_rows.Goals as goal
 
 pub returns-in-Err : goal.returns-in-Err
 returns-in-Err g c = record {
-  start = c.new.result;
-  source = c.new.ensures.source;
-  none_held = c.new.ensures.held;
+  start = c.new-reader.result;
+  source = c.new-reader.ensures.source;
+  none_held = c.new-reader.ensures.held;
   old = c.decoder_of-decoder.result;
   fresh = c.decoder_of-decoder.ensures;
   part = dumps_none c.in-Err.error c.skip_items.new.decoder c.in-Err.ensures.skipped (ap Err (first_of (
@@ -25,30 +24,44 @@ returns-in-Err g c = record {
 
 pub returns-in-None : goal.returns-in-None
 returns-in-None g c = record {
-  start = c.new.result;
-  source = c.new.ensures.source;
-  none_held = c.new.ensures.held;
+  start = c.new-reader.result;
+  source = c.new-reader.ensures.source;
+  none_held = c.new-reader.ensures.held;
   old = c.decoder_of-decoder.result;
   fresh = c.decoder_of-decoder.ensures;
   part = dumps_rest c.skip_items.new.decoder
       (record { reads = c.in_default.ensures.skipped; none = c.in_default.ensures.none })
-      (rw c.in-None.is c.dump_all.ensures);
+      (rw c.in-None.is (record {
+        new = c.print_all-outcome.new.decoder;
+        outcome = c.print_all-outcome.result.0;
+        offset = c.print_all-outcome.result.1;
+        prints = c.print_all-outcome.ensures;
+        said = search rules;
+      }));
 }
 
 pub returns-in-Some : goal.returns-in-Some
 returns-in-Some g c = record {
-  start = c.new.result;
-  source = c.new.ensures.source;
-  none_held = c.new.ensures.held;
+  start = c.new-reader.result;
+  source = c.new-reader.ensures.source;
+  none_held = c.new-reader.ensures.held;
   old = c.decoder_of-decoder.result;
   fresh = c.decoder_of-decoder.ensures;
   part = dumps_rest c.skip_items.new.decoder
       (record { reads = c.in_default.ensures.skipped; none = c.in_default.ensures.none })
-      (rw c.in-Some.is c.dump_some.ensures);
-}
-
-pub dump_all-requires : goal.dump_all-requires
-dump_all-requires g c = record {
-  alike = mode_then _ c.args.options.spelling c.new.result c.args.options.skip c.args.options.depth
-      c.decoder_of-decoder.result c.decoder_of-decoder.ensures c.skip_items.new.decoder c.in_default.ensures.skipped;
+      (rw c.in-Some.is (record {
+        fence = c.new-fence.result;
+        is_fenced = c.new-fence.ensures.fenced;
+        depth_is = c.new-fence.ensures.depth;
+        source = search rules;
+        start = c.with_spelling-fenced.result;
+        fresh = rw c.offset-start.ensures.value at c.with_spelling-fenced.ensures;
+        rows = record {
+          new = c.print_all-outcome-in-Some.new.decoder;
+          outcome = c.print_all-outcome-in-Some.result.0;
+          offset = c.print_all-outcome-in-Some.result.1;
+          prints = c.print_all-outcome-in-Some.ensures;
+          said = search rules;
+        };
+      }));
 }

@@ -1,6 +1,6 @@
 use Rattle.std.proofs.Common.{rules, ◌≡◌, Some, length, arith, ◌∙◌}
+use Rattle.std.specs.Io.Chain.{chain_remaining}
 use Rattle.ciborium_ll_grammar.specs.declared.spelling.Spelling.TheVariants.{Any}
-use Rattle.tool_files.specs.Patience.{rest_ahead}
 use Rattle.tool_files.specs.Recodes.{copies_none, copies_rest}
 use Rattle.tool_files.proofs.PartLaws.{bytes_then, few_bytes, few_items, items_then}
 use Rattle.tool_files.proofs.recode.copy_part.Goals as goal
@@ -19,8 +19,15 @@ returns g c = λ due written tells all.
     let reads = c.in_default.ensures.skipped in
     let left = bytes_then _ Any c.new.result c.args.options.skip c.args.options.depth c.decoder_of-decoder.result
     c.decoder_of-decoder.ensures c.skip_items.new.decoder reads due (c.new.ensures.ahead ∙ tells) in
-    let rest : rest_ahead g.R.Read.remaining c.new-rest.result ≡ Some left.0 =
-    c.new-rest.ensures ∙ rw (c.into_inner-2.ensures, c.offset-start.ensures.same) left.1 in
+    let rest : chain_remaining (λ s. Some s.now) g.R.Read.remaining c.chain.result ≡ Some left.0 = grind (
+      arith,
+      left.1,
+      c.chain.ensures.bytes,
+      c.into_parts-source.ensures.held,
+      c.into_parts-source.ensures.source,
+      c.into_inner-2.ensures,
+      c.offset-start.ensures.same,
+    ) in
     let from : c.offset-start.result ≡ length reads.items =
     omega (arith, c.offset-start.ensures.value, reads.passed.offset, c.decoder_of-decoder.ensures.offset) in
     copies_rest reads.items left.0 c.copy_items-writer.result.2 c.copy_items-writer.result.0

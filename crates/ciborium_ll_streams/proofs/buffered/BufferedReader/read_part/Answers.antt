@@ -3,7 +3,7 @@ use Rattle.std.proofs.KnownBytes.{Keeps-refl}
 use Rattle.std.proofs.lemmas.List.{take_at}
 use Rattle.std.specs.Io.KnownBytes.{Consumes, Keeps}
 use Rattle.ciborium_ll_streams.specs.Buffers.{buffered_ahead}
-use Rattle.ciborium_ll_streams.proofs.BufferLaws.{kept_Consumes, no_bytes, prepend_known-filled}
+use Rattle.ciborium_ll_streams.proofs.BufferLaws.{kept_Consumes, prepend_known-filled}
 use Rattle.ciborium_ll_streams.proofs.BufferLaws.{prepend_known-taken}
 use Rattle.ciborium_ll_streams.proofs.buffered.BufferedReader.read_part.Goals.{else-len-eq0}
 use Rattle.ciborium_ll_streams.proofs.buffered.BufferedReader.read_part.Goals.{then-len-eq0+else-capacity-data+in-Ok}
@@ -13,8 +13,8 @@ pub returns-clause-bytes : goal.returns-clause-bytes
 returns-clause-bytes g c =
     let kept : Keeps (buffered_ahead g.T.Read.remaining c.args.self.now) (buffered_ahead g.T.Read.remaining
     c.if-len-eq0.self) = elim c.if-len-eq0.branch [
-      | then-len-eq0+else-capacity-data+in-Ok w ↦ rw w.self-is (prepend_known-filled _ _ _ _
-          (no_bytes _ (sym c.len.ensures ∙ w.if-len-eq0.true)) w.in-Ok.ensures.bytes)
+      | then-len-eq0+else-capacity-data+in-Ok w ↦ rw w.self-is (prepend_known-filled _ _ _ _ _ w.in-Ok.ensures.bytes.1
+          w.in-Ok.ensures.bytes.3)
       | else-len-eq0 w ↦ rw w.self-is (Keeps-refl _)
     ] in
     let size : length c.take.new.«data» ≡ c.min-count.result = c.take.auto.«data» ∙ length-take-le _ _ (omega arith) in
