@@ -7,7 +7,7 @@ use std::alloc::{AllocError, Global};
 use std::io;
 use std::process::Abort;
 use test_support::streams::PartReader;
-use tool_files::arguments::{Options, Request, asked_by};
+use tool_files::arguments::{Options, Request, parse_request};
 use tool_files::check::check_input;
 use tool_files::digits::Digits;
 use tool_files::help::{VERSION, help_text};
@@ -64,7 +64,7 @@ pub fn options_of(rt: &impl Abort, alloc: Global, words: &str) -> Options {
     let list = listed(rt, alloc, words);
     let list = list.as_slice();
     let mut files = room_for(rt, alloc, list.len());
-    match asked_by(list, &mut files) {
+    match parse_request(list, &mut files) {
         Ok(Request::Look { options, .. }) => options,
         _ => panic!(rt; "{words} ask for no look"),
     }
@@ -196,7 +196,7 @@ fn are_asked(rt: &impl Abort, alloc: Global, words: &str, names: Option<&str>) -
     let list = listed(rt, alloc, words);
     let list = list.as_slice();
     let mut files = room_for(rt, alloc, list.len());
-    match (asked_by(list, &mut files), names) {
+    match (parse_request(list, &mut files), names) {
         (Ok(Request::Look { .. }), Some(names)) => are_named(files.as_slice(), names),
         (Ok(Request::Look { .. }), None) | (_, Some(_)) => false,
         (_, None) => true,
@@ -216,7 +216,7 @@ fn is_helped(rt: &impl Abort, alloc: Global, words: &str, start: &str) -> bool {
     let list = listed(rt, alloc, words);
     let list = list.as_slice();
     let mut files = room_for(rt, alloc, list.len());
-    let text = match asked_by(list, &mut files) {
+    let text = match parse_request(list, &mut files) {
         Ok(Request::Help(topic)) => help_text(topic),
         Ok(Request::Version) => VERSION,
         _ => return false,
@@ -236,7 +236,7 @@ fn is_said(rt: &impl Abort, alloc: Global, words: &str, want: &str) -> bool {
     let list = listed(rt, alloc, words);
     let list = list.as_slice();
     let mut files = room_for(rt, alloc, list.len());
-    match asked_by(list, &mut files) {
+    match parse_request(list, &mut files) {
         Ok(_) => false,
         Err(refusal) => match format!(in alloc; "{}", Said::new(alloc, refusal)) {
             Ok(text) => text.as_str() == want,

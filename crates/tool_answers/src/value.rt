@@ -12,7 +12,7 @@ use tool_requests::request::Limited;
 
 /// Answers `bytes`: the spelling of a byte string under a limit.
 pub fn bytes(alloc: Global, asked: &Limited, sink: &mut String) -> Result<(), AllocError> {
-    let spelling = spelled_bytes(alloc, asked.bytes.as_slice(), asked.limit)?;
+    let spelling = spell_bytes(alloc, asked.bytes.as_slice(), asked.limit)?;
     word_line(alloc, spelling.as_slice(), sink)
 }
 
@@ -21,12 +21,12 @@ pub fn text(alloc: Global, asked: &Limited, sink: &mut String) -> Result<(), All
     let Ok(value) = std::str::from_utf8(asked.bytes.as_slice()) else {
         return sink.push_str("error: text\n");
     };
-    let spelling = spelled_text(alloc, value, asked.limit)?;
+    let spelling = spell_text(alloc, value, asked.limit)?;
     word_line(alloc, spelling.as_slice(), sink)
 }
 
 /// Returns the spelling of a byte string, in segments within the limit. The error says that there is no memory for it.
-fn spelled_bytes(alloc: Global, value: &[u8], limit: Option<usize>) -> Result<Vec<u8>, OutOfMemory>
+fn spell_bytes(alloc: Global, value: &[u8], limit: Option<usize>) -> Result<Vec<u8>, OutOfMemory>
     ensures { IfOk result (λ bytes. IsValueSpelling byte_strings limit value.now bytes.items) }
 {
     let mut encoder = Encoder::from(VecWriter::new(alloc));
@@ -35,7 +35,7 @@ fn spelled_bytes(alloc: Global, value: &[u8], limit: Option<usize>) -> Result<Ve
 }
 
 /// Returns the spelling of a text string, in segments within the limit. The error says that there is no memory for it.
-fn spelled_text(alloc: Global, value: &str, limit: Option<usize>) -> Result<Vec<u8>, OutOfMemory>
+fn spell_text(alloc: Global, value: &str, limit: Option<usize>) -> Result<Vec<u8>, OutOfMemory>
     ensures { IfOk result (λ bytes. IsValueSpelling text_strings limit value.now bytes.items) }
 {
     let mut encoder = Encoder::from(VecWriter::new(alloc));

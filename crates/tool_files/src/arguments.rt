@@ -23,7 +23,7 @@ impl Word {
     ghost use Rattle.tool_files.specs.Arguments.{word_name};
 
     /// Returns the word of this name.
-    pub(crate) fn named(name: &str) -> Option<Word>
+    pub(crate) fn from_name(name: &str) -> Option<Word>
         ensures some { IfSome result (λ word. name.now ≡ word_name word) }
         ensures none { IfNone result ((word : Word) → name.now ≡ word_name word → ⊥) }
     {
@@ -45,7 +45,7 @@ impl Colors {
     ghost use Rattle.tool_files.specs.declared.options.Colors.{Colors};
 
     /// Returns the colors of this name.
-    fn named(name: &str) -> Option<Colors>
+    fn from_name(name: &str) -> Option<Colors>
         ensures some { IfSome result (λ colors. name.now ≡ colors_name colors) }
         ensures none { IfNone result ((colors : Colors) → name.now ≡ colors_name colors → ⊥) }
     {
@@ -59,7 +59,7 @@ impl Colors {
 }
 
 /// Returns the order of keys that has this name.
-fn order_named(name: &str) -> Option<Order>
+fn parse_order(name: &str) -> Option<Order>
     ensures some { IfSome result (λ order. name.now ≡ order_name order) }
     ensures none { IfNone result ((order : AnyOrder) → name.now ≡ order_name order → ⊥) }
 {
@@ -155,7 +155,7 @@ impl Setting {
     }
 
     /// Returns the option of this name, unless it takes a value.
-    fn named(name: &str) -> Option<Setting>
+    fn from_name(name: &str) -> Option<Setting>
         ensures some { IfSome result (λ setting. (has_value setting ≡ false) × (name.now ≡ setting_name setting)) }
         ensures none { IfNone result ((setting : Setting) → has_value setting ≡ false
             → name.now ≡ setting_name setting → ⊥) }
@@ -178,7 +178,7 @@ impl Setting {
     }
 
     /// Returns the option of this name that takes this value.
-    fn valued(name: &str, value: &str) -> Option<Setting>
+    fn parse_valued(name: &str, value: &str) -> Option<Setting>
         ensures some { IfSome result (λ setting. (name.now ≡ setting_name setting) × SpellsValue setting value.now) }
         ensures none { IfNone result ((setting : Setting) → name.now ≡ setting_name setting
             → SpellsValue setting value.now → ⊥) }
@@ -187,10 +187,10 @@ impl Setting {
             return Some(Setting::Depth(number_up_to(MOST_DEPTH, value)?));
         }
         if name == "--color" {
-            return Some(Setting::Colors(Colors::named(value)?));
+            return Some(Setting::Colors(Colors::from_name(value)?));
         }
         if name == "--order" {
-            return Some(Setting::Order(order_named(value)?));
+            return Some(Setting::Order(parse_order(value)?));
         }
         if name == "--skip" {
             return Some(Setting::Skip(count_of(value)?));
@@ -205,14 +205,14 @@ impl Setting {
     }
 
     /// Returns the option that the word spells with its value, as `--depth=3`.
-    fn joined(word: &str) -> Option<Setting>
+    fn parse_joined(word: &str) -> Option<Setting>
         ensures some { IfSome result (λ setting. JoinsValue setting word.now) }
         ensures none { IfNone result ((setting : Setting) → JoinsValue setting word.now → ⊥) }
     {
         let Some((name, value)) = word.split_once('=') else {
             return None;
         };
-        Setting::valued(name, value)
+        Setting::parse_valued(name, value)
     }
 
     /// Reads the option that has this name, with its value: the name ends with `=` and the value, or the value is the
@@ -226,7 +226,7 @@ impl Setting {
         ensures none { IfNone result ((setting : Setting) → (behind : List (String Global)) → IsKnown word setting
             → SpellsSetting setting name.now words.now behind → ⊥) }
     {
-        let (setting, behind) = Setting::spelled(name, words)?;
+        let (setting, behind) = Setting::parse_any(name, words)?;
         if setting.is_known(word) {
             Some((setting, behind))
         } else {
@@ -235,7 +235,7 @@ impl Setting {
     }
 
     /// Reads the option that has this name, of any first word.
-    fn spelled<'w>(name: &str, words: &'w [String]) -> Option<(Setting, &'w [String])>
+    fn parse_any<'w>(name: &str, words: &'w [String]) -> Option<(Setting, &'w [String])>
         ensures some { IfSome result (λ parsed. IsShallow parsed.0
             × SpellsSetting parsed.0 name.now words.now parsed.1.now) }
         ensures none { IfNone result ((setting : Setting) → (behind : List (String Global))
@@ -243,12 +243,12 @@ impl Setting {
     {
         if takes_value(name) {
             let (value, behind) = words.split_first()?;
-            let setting = Setting::valued(name, value.as_str())?;
+            let setting = Setting::parse_valued(name, value.as_str())?;
             return Some((setting, behind));
         }
-        match Setting::named(name) {
+        match Setting::from_name(name) {
             Some(setting) => Some((setting, words)),
-            None => Some((Setting::joined(name)?, words)),
+            None => Some((Setting::parse_joined(name)?, words)),
         }
     }
 }
@@ -421,7 +421,7 @@ fn refusal_at<'w>(word: Word, name: &'w str, words: &'w [String]) -> Refusal<'w>
 
 /// Returns whether the first word has an option of this name.
 fn is_option_of(word: Word, name: &str) -> bool {
-    match (name, Setting::named(name)) {
+    match (name, Setting::from_name(name)) {
         ("--depth", _) => true,
         ("--color", _) => Setting::Colors(Colors::Auto).is_known(word),
         ("--order", _) => Setting::Order(Order::Bytewise).is_known(word),
@@ -468,7 +468,10 @@ fn is_help(word: &str) -> bool
 /// # Errors
 ///
 /// The words ask for nothing. The error has the word at fault.
-pub fn asked_by<'w>(words: &'w [String], files: &mut Vec<&'w str>) -> Result<Request, Refusal<'w>>
+pub fn parse_request<'w>(
+    words: &'w [String],
+    files: &mut Vec<&'w str>,
+) -> Result<Request, Refusal<'w>>
     requires empty { files.old.items ≡ [] }
     requires room { length words.now ≤ vec_capacity files.old }
     ensures ok { IfOk result (λ request. AsksFor words.now (wanted_by request (texts files.new.items))) }
@@ -477,14 +480,14 @@ pub fn asked_by<'w>(words: &'w [String], files: &mut Vec<&'w str>) -> Result<Req
     let Some((first, behind)) = words.split_first() else {
         return Err(Refusal::NoWord);
     };
-    match Word::named(first.as_str()) {
-        Some(word) => asked_of(word, behind, files),
-        None => asked_about(first.as_str(), behind),
+    match Word::from_name(first.as_str()) {
+        Some(word) => parse_look(word, behind, files),
+        None => parse_help(first.as_str(), behind),
     }
 }
 
 /// Returns the request of the words after a word for a look at files.
-fn asked_of<'w>(
+fn parse_look<'w>(
     word: Word,
     words: &'w [String],
     files: &mut Vec<&'w str>,
@@ -505,7 +508,7 @@ fn asked_of<'w>(
 }
 
 /// Returns the request of a first word that is no word for a look at files.
-fn asked_about<'w>(first: &'w str, words: &'w [String]) -> Result<Request, Refusal<'w>>
+fn parse_help<'w>(first: &'w str, words: &'w [String]) -> Result<Request, Refusal<'w>>
     ensures ok { IfOk result (λ request. (files : List (List ℕ)) → AsksAbout first.now words.now
         (wanted_by request files)) }
     ensures err { IfErr result (λ refusal. (wanted : Wanted) → AsksAbout first.now words.now wanted → ⊥) }
@@ -517,7 +520,7 @@ fn asked_about<'w>(first: &'w str, words: &'w [String]) -> Result<Request, Refus
         };
     }
     if is_help_word(first) {
-        return match topic_named(words) {
+        return match parse_topic(words) {
             Ok(topic) => Ok(Request::Help(topic)),
             Err(refusal) => Err(refusal),
         };
@@ -533,14 +536,14 @@ fn is_help_word(word: &str) -> bool
 }
 
 /// Returns the topic that the words after a word for help name.
-fn topic_named<'w>(words: &'w [String]) -> Result<Topic, Refusal<'w>>
+fn parse_topic<'w>(words: &'w [String]) -> Result<Topic, Refusal<'w>>
     ensures ok { IfOk result (λ topic. NamesTopic words.now topic) }
     ensures err { IfErr result (λ refusal. (topic : Topic) → NamesTopic words.now topic → ⊥) }
 {
     let Some((name, more)) = words.split_first() else {
         return Ok(Topic::Program);
     };
-    let Some(topic) = Topic::named(name.as_str()) else {
+    let Some(topic) = Topic::from_name(name.as_str()) else {
         return Err(Refusal::UnknownWord(name.as_str()));
     };
     match more.split_first() {

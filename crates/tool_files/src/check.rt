@@ -7,14 +7,14 @@ use crate::arguments::Options;
 use cbor_ahead::AHEAD;
 use ciborium_ll::io::{BufferedReader, Read};
 use std::io;
-use tool_verdicts::ahead::wanted_ahead;
-use tool_verdicts::check::{decoder_of, failed_or};
+use tool_verdicts::ahead::judge_ahead;
+use tool_verdicts::check::{decoder_of, prefer_failure};
 use tool_verdicts::verdict::Verdict;
 
 /// How many bytes are read ahead at most.
 pub const ROOM: usize = 8192;
 
-/// Checks a reader's bytes from their start on, as `wanted_ahead` does with these options, and returns the verdict.
+/// Checks a reader's bytes from their start on, as `judge_ahead` does with these options, and returns the verdict.
 ///
 /// Without `--items` it reads them to their end, and otherwise to the end of the last item that is wanted.
 ///
@@ -33,7 +33,7 @@ pub fn check_input<R: io::Read + Drop>(reader: R, options: Options) -> Verdict
     let room = if options.hex { ROOM } else { AHEAD };
     let reader = BufferedReader::new(reader, &mut ahead[..room]);
     let decoder = decoder_of(reader, options.spelling);
-    let (decoder, verdict) = wanted_ahead(
+    let (decoder, verdict) = judge_ahead(
         decoder,
         options.skip,
         options.items,
@@ -41,5 +41,5 @@ pub fn check_input<R: io::Read + Drop>(reader: R, options: Options) -> Verdict
         options.depth,
     );
     let (_, _, fault) = decoder.into_inner().into_parts();
-    failed_or(fault, verdict)
+    prefer_failure(fault, verdict)
 }

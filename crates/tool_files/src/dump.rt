@@ -26,8 +26,8 @@ use std::cell::RefCell;
 use std::fmt::Write;
 use std::io;
 use std::io::Write as _;
-use tool_verdicts::check::{BUFFER_SIZE, decoder_of, failed_or, fault_of};
-use tool_verdicts::dump::{dump_verdict, left_shown};
+use tool_verdicts::check::{BUFFER_SIZE, decoder_of, fault_of, prefer_failure};
+use tool_verdicts::dump::{dump_verdict, show_left};
 use tool_verdicts::items::EMBEDDED_ROOM;
 use tool_verdicts::verdict::Verdict;
 
@@ -271,7 +271,7 @@ fn dump_rows<R: io::Read + Drop, W: io::Write>(
     if let Err(error) = skip_items(&mut decoder, options.skip, options.depth, &mut buffer) {
         let verdict = fault_of(error, decoder.offset());
         let (_, _, fault) = decoder.into_inner().into_parts();
-        return Err(failed_or(fault, verdict));
+        return Err(prefer_failure(fault, verdict));
     }
     match options.items {
         None => {
@@ -304,7 +304,7 @@ where
 {
     let outcome = print_rows(decoder, options.depth, options.spelling, holder);
     let offset = decoder.offset();
-    let outcome = left_shown(decoder, outcome, holder.below(), holder);
+    let outcome = show_left(decoder, outcome, holder.below(), holder);
     (outcome, offset)
 }
 

@@ -12,7 +12,7 @@ use std::cell::RefCell;
 use std::fmt::Write;
 use std::io;
 use std::io::Write as _;
-use tool_verdicts::check::{decoder_of, failed_or};
+use tool_verdicts::check::{decoder_of, prefer_failure};
 use tool_verdicts::part::{Span, Spans, index_part};
 use tool_verdicts::verdict::Verdict;
 
@@ -100,7 +100,7 @@ fn index_items<R: io::Read + Drop, S: Spans>(
     );
     let (_, _, fault) = decoder.into_inner().into_parts();
     match found {
-        Ok(verdict) => Ok(failed_or(fault, verdict)),
+        Ok(verdict) => Ok(prefer_failure(fault, verdict)),
         Err(error) => Err(error),
     }
 }

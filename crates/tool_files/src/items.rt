@@ -9,7 +9,7 @@ use ciborium_ll::io::{BufferedReader, BufferedWriter, Read, SliceReader, Write, 
 use std::cell::RefCell;
 use std::io;
 use tool_verdicts::check::decoder_of;
-use tool_verdicts::items::{Form, items_part, items_verdict};
+use tool_verdicts::items::{Form, items_verdict, write_part};
 use tool_verdicts::verdict::Verdict;
 
 /// Writes to a writer, and knows whether the last line is open. It flushes only at its end, since the reader flushes
@@ -137,7 +137,7 @@ fn write_items<R: io::Read + Drop, W: Write>(
     let mut ahead = [0; ROOM];
     let reader = BufferedReader::new(reader, &mut ahead);
     let mut decoder = decoder_of(reader, options.spelling);
-    let outcome = items_part(
+    let outcome = write_part(
         &mut decoder,
         writer,
         options.skip,

@@ -20,7 +20,7 @@ use ciborium_ll::io::{KeepingReader, StdWriter, Write, WriteFault};
 use ciborium_ll::limits::LONGEST_AFFIX;
 use std::io;
 use std::io::{Chain, Read as _};
-use tool_verdicts::check::{BUFFER_SIZE, decoder_of, failed_or, fault_of};
+use tool_verdicts::check::{BUFFER_SIZE, decoder_of, fault_of, prefer_failure};
 use tool_verdicts::verdict::Verdict;
 
 /// How many bytes there is room for beside a piece: those of a title that an earlier piece began, and as many that a
@@ -184,7 +184,7 @@ fn copy_pieces<R: io::Read, W: io::Write>(
     'pieces: loop {
         let count = reader.read(&mut piece).map_err(Verdict::Failed)?;
         if count == 0 {
-            return ended(copy.start, read);
+            return answer_end(copy.start, read);
         }
         if count > usize::MAX - read {
             return Err(Verdict::TooLong);
@@ -199,7 +199,7 @@ fn copy_pieces<R: io::Read, W: io::Write>(
 }
 
 /// Copies at most `most` items. For none it reads and writes nothing.
-fn copy_wanted<R: io::Read, W: io::Write>(
+fn copy_most<R: io::Read, W: io::Write>(
     reader: &mut R,
     writer: &mut StdWriter<W>,
     depth: usize,
@@ -217,7 +217,7 @@ fn copy_wanted<R: io::Read, W: io::Write>(
 }
 
 /// Returns the answer at the end of an input of this length, if the item that would be next begins at `start`.
-fn ended(start: usize, len: usize) -> Result<(), Verdict>
+fn answer_end(start: usize, len: usize) -> Result<(), Verdict>
     ensures { result ≡ end_said start len }
 {
     if start == len {
@@ -249,7 +249,7 @@ pub fn copy_part<R: io::Read + Drop, W: io::Write>(
     if let Err(error) = skip_items(&mut decoder, options.skip, options.depth, &mut buffer) {
         let verdict = fault_of(error, decoder.offset());
         let (_, _, fault) = decoder.into_inner().into_parts();
-        return (writer, Err(failed_or(fault, verdict)));
+        return (writer, Err(prefer_failure(fault, verdict)));
     }
     let start = decoder.offset();
     let (source, held, _) = decoder.into_inner().into_parts();
@@ -263,7 +263,7 @@ fn moved(copied: Result<(), Verdict>, start: usize) -> Result<(), Verdict>
 {
     match copied {
         Ok(()) => Ok(()),
-        Err(verdict) => Err(verdict.moved_by(start)),
+        Err(verdict) => Err(verdict.shift(start)),
     }
 }
 
@@ -299,6 +299,6 @@ pub fn copy_items<R: io::Read, W: io::Write>(
         → (count : ℕ) → AreItems Any options.depth count due → AnswersItems result.2 }
 {
     let mut writer = StdWriter::new(writer);
-    let copied = copy_wanted(&mut reader, &mut writer, options.depth, options.items);
+    let copied = copy_most(&mut reader, &mut writer, options.depth, options.items);
     (reader, writer.into_inner(), copied)
 }

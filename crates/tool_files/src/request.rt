@@ -20,14 +20,14 @@ impl Topic {
     ghost use Rattle.tool_files.specs.declared.request.Topic.{Topic};
 
     /// Returns the topic of this name. `help` is the name of the program as a topic.
-    pub fn named(name: &str) -> Option<Topic>
+    pub fn from_name(name: &str) -> Option<Topic>
         ensures some { IfSome result (λ topic. name.now ≡ topic_name topic) }
         ensures none { IfNone result ((topic : Topic) → name.now ≡ topic_name topic → ⊥) }
     {
         match name {
             "help" => Some(Topic::Program),
             "recode" => Some(Topic::Recode),
-            _ => match Word::named(name) {
+            _ => match Word::from_name(name) {
                 Some(word) => Some(Topic::Word(word)),
                 None => None,
             },

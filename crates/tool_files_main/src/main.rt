@@ -12,7 +12,7 @@ use std::fs::File;
 use std::io::{BufWriter, IsTerminal};
 use std::process::ExitCode;
 use std::{env, fs, io};
-use tool_files::arguments::{Colors, Options, Request, View, Word, asked_by};
+use tool_files::arguments::{Colors, Options, Request, View, Word, parse_request};
 use tool_files::canon::{CanonFault, canon_input};
 use tool_files::check::check_input;
 use tool_files::deterministic::check_deterministic;
@@ -90,7 +90,7 @@ fn run(rt: &HostRuntime, words: &[String]) -> Status {
         let _ = eprintln!(rt; "cbor: {}", io::ErrorKind::OutOfMemory);
         return Status::Failed;
     };
-    match asked_by(words, &mut files) {
+    match parse_request(words, &mut files) {
         Ok(Request::Look { word, options }) => {
             let task = Task {
                 word,
@@ -211,12 +211,12 @@ fn run_stream<R: io::Read + Drop>(
             let mut writer = io::writer(rt);
             let outcome = canon_input(rt.alloc(), &mut reader, &mut writer, task.options);
             reader.clear();
-            written(rt, file, outcome.map_err(CanonFault::verdict))
+            copy_status(rt, file, outcome.map_err(CanonFault::verdict))
         }
         Word::Recode => {
             let (_, outcome) = copy_part(&mut reader, io::writer(rt), task.options);
             reader.clear();
-            written(rt, file, outcome)
+            copy_status(rt, file, outcome)
         }
     }
 }
@@ -329,7 +329,7 @@ fn name_fault(rt: &impl Eprint, file: &str, verdict: Verdict) -> Status {
 }
 
 /// Says on standard error why a file was not written whole, if it was not.
-fn written(rt: &impl Eprint, file: &str, outcome: Result<(), Verdict>) -> Status {
+fn copy_status(rt: &impl Eprint, file: &str, outcome: Result<(), Verdict>) -> Status {
     match outcome {
         Ok(()) => Status::Well,
         Err(verdict) => name_fault(rt, file, verdict),

@@ -135,13 +135,13 @@ pub fn raw_buffered<R: io::Read, W: io::Write>(
     BufferedCopy {
         reader,
         writer,
-        copied: restored_copy(copied, read_fault, write_fault),
-        flushed: restored_flush(flushed, flush_fault),
+        copied: restore_copy(copied, read_fault, write_fault),
+        flushed: restore_flush(flushed, flush_fault),
     }
 }
 
 /// Returns the outcome of a copy, with the fault that was kept aside.
-pub(crate) fn restored_copy(
+pub(crate) fn restore_copy(
     copied: Result<(), RecodeError<FaultKept, FaultKept>>,
     read_fault: Option<ReadFault>,
     write_fault: Option<WriteFault>,
@@ -155,7 +155,7 @@ pub(crate) fn restored_copy(
 }
 
 /// Returns the outcome of a flush, with the fault that was kept aside.
-pub(crate) fn restored_flush(
+pub(crate) fn restore_flush(
     flushed: Result<(), FaultKept>,
     fault: Option<WriteFault>,
 ) -> Result<(), WriteFault>

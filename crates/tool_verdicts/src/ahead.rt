@@ -15,9 +15,9 @@ use ciborium_ll::Decoder;
 use ciborium_ll::io::{BufferedReader, Read};
 use std::io;
 
-/// Checks a part of a sequence of items as [`wanted_part`](crate::part::wanted_part) does, and takes the items that the
+/// Checks a part of a sequence of items as [`judge_part`](crate::part::judge_part) does, and takes the items that the
 /// buffer of the reader holds by a checker. It returns the decoder and the verdict.
-pub fn wanted_ahead<'a, T: io::Read>(
+pub fn judge_ahead<'a, T: io::Read>(
     decoder: Decoder<BufferedReader<'a, T>>,
     skip: usize,
     most: Option<usize>,
@@ -36,14 +36,14 @@ pub fn wanted_ahead<'a, T: io::Read>(
         return (stopped, verdict);
     }
     match most {
-        Some(_) => some_ahead(behind, most, depth),
-        None if one => one_ahead(behind, depth),
-        None => some_ahead(behind, None, depth),
+        Some(_) => judge_some_ahead(behind, most, depth),
+        None if one => judge_one_ahead(behind, depth),
+        None => judge_some_ahead(behind, None, depth),
     }
 }
 
 /// Checks one item, and that nothing follows it.
-fn one_ahead<'a, T: io::Read>(
+fn judge_one_ahead<'a, T: io::Read>(
     decoder: Decoder<BufferedReader<'a, T>>,
     depth: usize,
 ) -> (Decoder<BufferedReader<'a, T>>, Verdict)
@@ -65,7 +65,7 @@ fn one_ahead<'a, T: io::Read>(
 }
 
 /// Checks at most `most` items, or all.
-fn some_ahead<'a, T: io::Read>(
+fn judge_some_ahead<'a, T: io::Read>(
     decoder: Decoder<BufferedReader<'a, T>>,
     most: Option<usize>,
     depth: usize,

@@ -28,7 +28,7 @@ pub fn decoder_of<R: Read>(reader: R, spelling: Spelling) -> Decoder<R>
 }
 
 /// Returns the verdict, or the error of a read that failed for another reason than the end.
-pub fn failed_or(fault: Option<ReadFault>, verdict: Verdict) -> Verdict
+pub fn prefer_failure(fault: Option<ReadFault>, verdict: Verdict) -> Verdict
     ensures { result ≡ unless_failed fault verdict }
 {
     match fault {
@@ -54,7 +54,7 @@ pub fn end_verdict(fault: Option<ReadFault>) -> Result<(), Verdict>
 /// If a steady reader tells its bytes, the offset fits and no header waits on a strict decoder, the verdict is `Well`
 /// exactly if the bytes are as wanted. Otherwise it names the first fault after the whole items. If bytes follow the
 /// one item that is wanted, it names the offset from which they follow.
-pub fn wanted<R: Read>(decoder: &mut Decoder<R>, one: bool, depth: usize) -> Verdict
+pub fn judge<R: Read>(decoder: &mut Decoder<R>, one: bool, depth: usize) -> Verdict
 where
     R::Error: Drop,
     requires { depth ≤ MOST_LEVELS }
@@ -65,14 +65,14 @@ where
     ensures says { SaysVerdict R.Read one depth BUFFER_SIZE decoder.old result decoder.new }
 {
     if one {
-        single(decoder, depth)
+        judge_one(decoder, depth)
     } else {
-        all(decoder, depth)
+        judge_all(decoder, depth)
     }
 }
 
 /// Checks a sequence of items.
-fn all<R: Read>(decoder: &mut Decoder<R>, depth: usize) -> Verdict
+fn judge_all<R: Read>(decoder: &mut Decoder<R>, depth: usize) -> Verdict
 where
     R::Error: Drop,
     requires { depth ≤ MOST_LEVELS }
@@ -101,7 +101,7 @@ fn sequence_verdict<E: Drop>(answer: Result<Sequence<E>, Stopped<E>>, offset: us
 }
 
 /// Checks one item, and that nothing follows it.
-fn single<R: Read>(decoder: &mut Decoder<R>, depth: usize) -> Verdict
+fn judge_one<R: Read>(decoder: &mut Decoder<R>, depth: usize) -> Verdict
 where
     R::Error: Drop,
     requires { depth ≤ MOST_LEVELS }

@@ -4,7 +4,7 @@ ghost use Rattle.std.specs.Prelude.{◌≡◌};
 ghost use Rattle.cbor_dump.specs.Dumps.{AreRowsTaken, ShowsLeft};
 ghost use Rattle.tool_verdicts.specs.Checking.{IsCutShort, dump_said};
 
-use crate::check::{end_verdict, failed_or, fault_of};
+use crate::check::{end_verdict, fault_of, prefer_failure};
 use crate::verdict::Verdict;
 use cbor_dump::dump::DumpError;
 use cbor_dump::left::dump_left;
@@ -17,7 +17,7 @@ use std::io;
 /// Shows the bytes that are left of a title or of a body after the rows, at this level, if the reader failed within it.
 ///
 /// The dump's answer stays, unless that row is refused: then it is `Rows`.
-pub fn left_shown<R: Read, S: Rows>(
+pub fn show_left<R: Read, S: Rows>(
     decoder: &mut Decoder<R>,
     outcome: Result<R::Error, DumpError<R::Error, S::Error>>,
     level: usize,
@@ -55,6 +55,6 @@ pub fn dump_verdict<E: Drop>(
     match outcome {
         Ok(_) => end_verdict(fault),
         Err(DumpError::Rows(error)) => Err(Verdict::Output(error)),
-        Err(DumpError::Item(error)) => Err(failed_or(fault, fault_of(error, offset))),
+        Err(DumpError::Item(error)) => Err(prefer_failure(fault, fault_of(error, offset))),
     }
 }

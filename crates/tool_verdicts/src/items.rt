@@ -13,7 +13,7 @@ ghost use Rattle.tool_verdicts.specs.Lines.{WritesItemIn, WritesLine, WritesLine
 ghost use Rattle.tool_verdicts.specs.declared.check.TheConstants.{BUFFER_SIZE as CHECK_BUFFER};
 ghost use Rattle.ciborium_ll.specs.Limits.{MOST_LEVELS};
 
-use crate::check::{BUFFER_SIZE, end_verdict, failed_or, fault_of};
+use crate::check::{BUFFER_SIZE, end_verdict, fault_of, prefer_failure};
 use crate::part::is_enough;
 use crate::verdict::Verdict;
 use cbor_diag::{DiagError, Style, diagnose, diagnose_embedded};
@@ -62,23 +62,23 @@ pub fn items_verdict<E: Drop, F>(
 {
     match outcome {
         Ok(Ending::Enough | Ending::End(_)) => Ok(end_verdict(fault)),
-        Ok(Ending::More(place)) => Ok(Err(failed_or(fault, Verdict::More(place)))),
-        Err(JsonError::Read(error)) => Ok(Err(failed_or(fault, fault_of(error, offset)))),
-        Err(JsonError::NoJson(place)) => Ok(Err(failed_or(fault, Verdict::NoJson(place)))),
+        Ok(Ending::More(place)) => Ok(Err(prefer_failure(fault, Verdict::More(place)))),
+        Err(JsonError::Read(error)) => Ok(Err(prefer_failure(fault, fault_of(error, offset)))),
+        Err(JsonError::NoJson(place)) => Ok(Err(prefer_failure(fault, Verdict::NoJson(place)))),
         Err(JsonError::Write(error)) => Err(error),
     }
 }
 
 /// Writes the items after the first `skip` items: one that nothing may follow if `one` and there is no limit, and
-/// otherwise as [`items`] does. The call reads the first items as `skip_items` does, and writes nothing of them.
+/// otherwise as [`write_items`] does. The call reads the first items as `skip_items` does, and writes nothing of them.
 ///
-/// One item that nothing may follow is written as `items` writes it. After it the call reads at most one title. If the
+/// One item that nothing may follow is written as `write_items` writes it. After it the call reads at most one title. If the
 /// reader fails there before a byte comes, the answer is `End`, and otherwise `More` with the offset after the item.
 ///
 /// # Errors
 ///
-/// `Read` if there are fewer items than `skip`, or no item and one is wanted, and the errors of `items`.
-pub fn items_part<R: Read, W: Write>(
+/// `Read` if there are fewer items than `skip`, or no item and one is wanted, and the errors of `write_items`.
+pub fn write_part<R: Read, W: Write>(
     decoder: &mut Decoder<R>,
     writer: &mut W,
     skip: usize,
@@ -98,9 +98,9 @@ where
         return Err(JsonError::Read(error));
     }
     match most {
-        Some(_) => items(decoder, writer, most, depth, form),
-        None if one => only_item(decoder, writer, depth, form),
-        None => items(decoder, writer, None, depth, form),
+        Some(_) => write_items(decoder, writer, most, depth, form),
+        None if one => write_only_item(decoder, writer, depth, form),
+        None => write_items(decoder, writer, None, depth, form),
     }
 }
 
@@ -122,7 +122,7 @@ where
 ///
 /// The error of that call on the last item, or `Write` if a line could not be ended. Each item has
 /// notation, so `NoJson` comes for JSON alone.
-pub fn items<R: Read, W: Write>(
+pub fn write_items<R: Read, W: Write>(
     decoder: &mut Decoder<R>,
     writer: &mut W,
     most: Option<usize>,
@@ -140,7 +140,7 @@ pub fn items<R: Read, W: Write>(
     'items: while !is_enough(most, shown) {
         let place = decoder.offset();
         if let Err(error) = write_line(decoder, writer, depth, form) {
-            return ended(error, place, decoder.offset());
+            return ending_at(error, place, decoder.offset());
         }
         shown += 1;
     }
@@ -148,7 +148,7 @@ pub fn items<R: Read, W: Write>(
 }
 
 /// Writes one item on a line, and looks whether more follows it.
-fn only_item<R: Read, W: Write>(
+fn write_only_item<R: Read, W: Write>(
     decoder: &mut Decoder<R>,
     writer: &mut W,
     depth: usize,
@@ -165,11 +165,11 @@ where
     }
     let place = decoder.offset();
     let pulled = decoder.pull();
-    Ok(following(pulled, place, decoder.offset()))
+    Ok(ending_of(pulled, place, decoder.offset()))
 }
 
 /// Answers the pull after an item that ends at this place. The pull ended at the offset `stop`.
-fn following<E: Drop>(pulled: Result<Header, Error<E>>, place: usize, stop: usize) -> Ending<E>
+fn ending_of<E: Drop>(pulled: Result<Header, Error<E>>, place: usize, stop: usize) -> Ending<E>
     ensures { FollowsItem pulled place stop result }
 {
     match pulled {
@@ -193,7 +193,7 @@ fn write_line<R: Read, W: Write>(
     if let Err(error) = write_item(decoder, writer, depth, form) {
         return Err(error);
     }
-    match line_ended(writer) {
+    match end_line(writer) {
         Ok(()) => Ok(()),
         Err(fault) => Err(JsonError::Write(fault)),
     }
@@ -268,7 +268,7 @@ fn as_json<E, F>(shown: Result<(), DiagError<E, F>>) -> Result<(), JsonError<E, 
 }
 
 /// Ends the line of an item and flushes the writer.
-fn line_ended<W: Write>(writer: &mut W) -> Result<(), W::Error>
+fn end_line<W: Write>(writer: &mut W) -> Result<(), W::Error>
     ensures { EndsOrFails W.Write writer.old result writer.new }
 {
     writer.write_all(b"\n")?;
@@ -276,7 +276,7 @@ fn line_ended<W: Write>(writer: &mut W) -> Result<(), W::Error>
 }
 
 /// Answers the error of a write of an item that begins at this place. The write ended at the offset `stop`.
-fn ended<E, F>(
+fn ending_at<E, F>(
     error: JsonError<E, F>,
     place: usize,
     stop: usize,

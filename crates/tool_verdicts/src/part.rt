@@ -9,7 +9,7 @@ ghost use Rattle.tool_verdicts.specs.Parts.{SaysSome};
 ghost use Rattle.tool_verdicts.specs.declared.check.TheConstants.{BUFFER_SIZE};
 ghost use Rattle.tool_verdicts.specs.declared.part.Span.{Span as AnySpan};
 
-use crate::check::{BUFFER_SIZE, fault_of, wanted};
+use crate::check::{BUFFER_SIZE, fault_of, judge};
 use crate::verdict::Verdict;
 use cbor_dump::counted::skip_items;
 use cbor_skip::{SkipError, skip_item};
@@ -67,7 +67,7 @@ impl Spans for Unseen {
 ///
 /// The verdict `Well` has the numbers of the part. Fewer items than `skip` are `Short`, and a fault among them is named
 /// as any other. After `most` items the call reads no more.
-pub fn wanted_part<R: Read>(
+pub fn judge_part<R: Read>(
     decoder: &mut Decoder<R>,
     skip: usize,
     most: Option<usize>,
@@ -86,13 +86,13 @@ where
         return fault_of(error, decoder.offset());
     }
     match most {
-        Some(_) => some(decoder, most, depth),
-        None => wanted(decoder, one, depth),
+        Some(_) => judge_some(decoder, most, depth),
+        None => judge(decoder, one, depth),
     }
 }
 
 /// Checks at most `most` items.
-fn some<R: Read>(decoder: &mut Decoder<R>, most: Option<usize>, depth: usize) -> Verdict
+fn judge_some<R: Read>(decoder: &mut Decoder<R>, most: Option<usize>, depth: usize) -> Verdict
 where
     R::Error: Drop,
     requires { depth ≤ MOST_LEVELS }
@@ -106,7 +106,7 @@ where
     }
 }
 
-/// Checks a part of a sequence of items as `wanted_part` does, and hands out the place of each item of the part after
+/// Checks a part of a sequence of items as `judge_part` does, and hands out the place of each item of the part after
 /// its last byte.
 ///
 /// # Errors

@@ -147,7 +147,7 @@ impl Verdict {
 
     /// Returns the verdict on an input that begins at the offset `start` of another one. A place that would be greater
     /// than `usize::MAX` is `usize::MAX`.
-    pub fn moved_by(self, start: usize) -> Verdict
+    pub fn shift(self, start: usize) -> Verdict
         ensures { result ≡ verdict_moved start self }
     {
         match self {

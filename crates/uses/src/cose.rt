@@ -192,7 +192,7 @@ fn pairs<R: Read>(decoder: &mut Decoder<R>, len: Option<usize>) -> Result<(), Sk
     'items: while !remaining.is_done() {
         let place = decoder.offset();
         if let Err(error) = skip_item(decoder, MAP_DEPTH - 1, &mut [0; 64]) {
-            return ended(error, remaining.closes(), place);
+            return answer_end(error, remaining.closes(), place);
         }
         remaining = remaining.after_item();
     }
@@ -200,7 +200,7 @@ fn pairs<R: Read>(decoder: &mut Decoder<R>, len: Option<usize>) -> Result<(), Sk
 }
 
 /// Returns the meaning of the error of a map's item that begins at `place`. A break there ends the map, if it may.
-fn ended<E>(error: SkipError<E>, closes: bool, place: usize) -> Result<(), SkipError<E>>
+fn answer_end<E>(error: SkipError<E>, closes: bool, place: usize) -> Result<(), SkipError<E>>
     ensures { EndsPairs closes place error result }
 {
     match error {

@@ -69,7 +69,7 @@ pub fn view_sign1(bytes: &[u8]) -> Result<Message<'_>, MessageError>
 fn message_of<'a>(item: &Item<'a>) -> Option<Message<'a>>
     ensures { MatchOption result (IsNoSign1 (item_bytes item.now)) (IsMessage (item_bytes item.now)) }
 {
-    let Some(inner) = tagged(item) else {
+    let Some(inner) = find_tagged(item) else {
         return None;
     };
     let Some((first, second, third, fourth)) = four_of(&inner) else {
@@ -96,7 +96,7 @@ fn message_of<'a>(item: &Item<'a>) -> Option<Message<'a>>
 }
 
 /// Returns the item with the tag of a COSE_Sign1.
-fn tagged<'a>(item: &Item<'a>) -> Option<Item<'a>>
+fn find_tagged<'a>(item: &Item<'a>) -> Option<Item<'a>>
     ensures { MatchOption result ((inner : List ℕ) → IsTagged (item_bytes item.now) inner → ⊥)
         (λ inner. IsTagged (item_bytes item.now) (item_bytes inner)) }
 {

@@ -43,14 +43,14 @@ pub fn normalise<R: Read, W: Write>(
     let reader = decoder.into_inner();
     let mut writer = encoder.into_inner();
     let outcome = match copied {
-        Ok(()) => flushed(&mut writer),
+        Ok(()) => flush_writer(&mut writer),
         Err(error) => Err(error),
     };
     (reader, writer, outcome)
 }
 
 /// Flushes the writer.
-fn flushed<E, W: Write>(writer: &mut W) -> Result<(), RecodeError<E, W::Error>>
+fn flush_writer<E, W: Write>(writer: &mut W) -> Result<(), RecodeError<E, W::Error>>
     ensures { FlushesSo W.Write writer.old result writer.new }
 {
     writer.flush().map_err(|fault| RecodeError::Write(fault))

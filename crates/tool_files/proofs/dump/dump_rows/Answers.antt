@@ -11,7 +11,7 @@ returns-in-Err g c = record {
   fresh = c.decoder_of-decoder.ensures;
   part = dumps_none c.in-Err.error c.skip_items.new.decoder c.in-Err.ensures.skipped (ap Err (first_of (
     cc (
-      c.failed_or.ensures,
+      c.prefer_failure.ensures,
       c.fault_of-verdict.ensures,
       c.into_parts-fault.ensures.fault,
       c.into_inner.ensures,

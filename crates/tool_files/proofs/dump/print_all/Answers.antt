@@ -4,7 +4,7 @@ pub returns : goal.returns
 returns g c = record {
   between = c.print_rows-outcome.new.decoder;
   dumped = λ taken.
-      let same = c.left_shown-outcome.ensures.stays taken in
+      let same = c.show_left-outcome.ensures.stays taken in
       rw same (c.print_rows-outcome.ensures.reads (rw same at taken));
   at = c.offset-offset.ensures.value;
 }

@@ -17,7 +17,7 @@ returns-then-count-eq0 g c = λ due written tells all.
     let read : c.read.result ≡ Ok c.in_ok-count.count = search rules in
     let got = rw read at c.read.ensures.bytes in
     let zero : c.in_ok-count.count ≡ 0 = omega (arith, c.if-count-eq0.true) in
-    rw c.ended.ensures (read_ended _ _ c.args.depth c.args.most due written held c.read.new.self
+    rw c.answer_end.ensures (read_ended _ _ c.args.depth c.args.most due written held c.read.new.self
     (take c.in_ok-count.count c.read.new.buf) got.0 (ap (λ (n : ℕ). take n c.read.new.buf) zero)
     (got.1 zero (omega (arith, c.pieces.invariant.piece))))
 

@@ -20,7 +20,7 @@ returns g c = λ due written told-due told-written.
     let reader = c.into_parts-reader.result.0 in
     let writer = c.into_parts-writer.result.0 in
     let left = TellsBehind remaining 8192 in
-    let got = TellsFlushed contents c.restored_flush.result in
+    let got = TellsFlushed contents c.restore_flush.result in
     let told = told_ahead _ _ old first due written c.from-decoder.ensures.mode c.from-decoder.ensures.none_waits
     (ap tells c.from-decoder.ensures.reader ∙ c.new.ensures.ahead ∙ told-due)
     (ap (buffered_written contents) c.from-encoder.ensures ∙ c.new-2.ensures.written ∙ told-written) in
@@ -35,11 +35,11 @@ returns g c = λ due written told-due told-written.
     (ap tells c.into_inner-reader.ensures ∙ is)) in
     let gets = λ (bytes : List ℕ) (is : buffered_written contents last ≡ Some bytes).
     subst (λ (w : g.row.W.Denot). got w bytes) (sym c.into_parts-writer.ensures.sink)
-    (flushed_known contents _ c.flush-flushed.result c.restored_flush.result end.sink (buffered_kept_back end) bytes
-    c.restored_flush.ensures c.flush-flushed.ensures.sent
+    (flushed_known contents _ c.flush-flushed.result c.restore_flush.result end.sink (buffered_kept_back end) bytes
+    c.restore_flush.ensures c.flush-flushed.ensures.sent
     (kept_known _ _ bytes c.flush-flushed.ensures.keeps (c.take_fault-write_fault.ensures.written
     ∙ ap (buffered_written contents) c.into_inner-writer.ensures ∙ is))) in
-    restored_outcome left got c.args.count due written reader writer _ _ c.recode-copied.result c.restored_copy.result
-    c.restored_copy.ensures
+    restored_outcome left got c.args.count due written reader writer _ _ c.recode-copied.result c.restore_copy.result
+    c.restore_copy.ensures
     (handed_on _ left _ got new.reader reader last writer leaves gets c.args.count due written c.recode-copied.result
     copies)

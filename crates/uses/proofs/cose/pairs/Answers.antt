@@ -23,7 +23,7 @@ returns-in-Err g c =
     let stops = rw c.offset-place.ensures.same at c.in-Err.ensures.skipped.skipped in
     pairs_end g.R.Read c.args.len (MAP_DEPTH - 1) 64 c.args.decoder.now c.items.decoder c.skip_item.new.decoder
     c.items.remaining _ c.offset-place.result _ c.items.invariant some moves_on.steady c.offset-place.ensures.value stops
-    (rw c.closes.ensures at c.ended.ensures)
+    (rw c.closes.ensures at c.answer_end.ensures)
 
 -- Each item takes at least one byte.
 pub items-smaller : goal.items-smaller

@@ -15,7 +15,7 @@ returns-clause-copied g c =
           c.from-decoder.ensures c.into_inner-reader.ensures c.from-encoder.ensures c.into_inner-writer.ensures
           (rw w.in-Ok.is at recodes) in
           rw (w.writer-is, w.outcome-is) (flush_copies R W c.args.count c.args.reader _ c.args.writer _ _
-          w.flushed-outcome.result copies w.flushed-outcome.ensures)
+          w.flush_writer-outcome.result copies w.flush_writer-outcome.ensures)
           )
       | in-Err w ↦ (
           let stops = recodes_from R W c.args.count c.args.reader _ c.args.writer _ _ _ _ new _
@@ -41,7 +41,7 @@ returns-clause-anyhow g c = λ due written tell.
           let copied = rw w.in-Ok.is at anyhow in
           let copies = copies_so R W c.args.count due written c.args.reader _ c.args.writer _ new _ fresh same copied in
           rw (w.writer-is, w.outcome-is) (flush_anyhow R W c.args.count due written _ _ _
-          (rw c.into_inner-writer.ensures copies) w.flushed-outcome.result w.flushed-outcome.ensures)
+          (rw c.into_inner-writer.ensures copies) w.flush_writer-outcome.result w.flush_writer-outcome.ensures)
           )
       | in-Err w ↦ (
           let failed = rw w.in-Err.is at anyhow in
@@ -69,8 +69,8 @@ returns-clause-exactly g c = λ due written are.
           let told = room_told R W c.args.count due written c.args.reader _ _ _ new _ fresh same
           is_ready.can_write.room is_ready.can_write.room-told all in
           rw (w.writer-is, w.outcome-is) (flush_told R W c.args.count due written _ _ _
-          (rw c.into_inner-writer.ensures copies) (rw c.into_inner-writer.ensures told) w.flushed-outcome.result
-          w.flushed-outcome.ensures)
+          (rw c.into_inner-writer.ensures copies) (rw c.into_inner-writer.ensures told) w.flush_writer-outcome.result
+          w.flush_writer-outcome.ensures)
           )
       | in-Err w ↦ (
           let failed = rw w.in-Err.is at copy in

@@ -1,5 +1,0 @@
-use Rattle.std.proofs.Common.{rules}
-use Rattle.tool_verdicts.proofs.check.failed_or.Goals as goal
-
-pub returns-in-Some-Failed : goal.returns-in-Some-Failed
-returns-in-Some-Failed c = search rules

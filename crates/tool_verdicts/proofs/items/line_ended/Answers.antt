@@ -1,5 +1,0 @@
-use Rattle.std.proofs.Common.{rules}
-use Rattle.tool_verdicts.proofs.items.line_ended.Goals as goal
-
-pub returns : goal.returns
-returns g c = search rules
