@@ -1,7 +1,9 @@
 -- The common parts of the relations of the decoder's calls.
 use Rattle.std.proofs.Common.{refl, ◌+◌, [], ◌≡◌, ℕ, ◌⊎◌, List, ◌++◌, Option, Some, None, IfSome, Result, Ok}
 use Rattle.std.proofs.Common.{Err, IsErrAnd, ◌<◌, ◌≤◌, ◌-◌, ◌^◌, ◌∙◌, arith, append_assoc, append-nil, length-append}
+use Rattle.std.proofs.Common.{length, take, drop, take-append-drop, sym, inr}
 use Rattle.std.proofs.KnownBytes.{Consumes-trans}
+use Rattle.std.specs.Io.KnownBytes.{Consumes}
 use Rattle.ciborium_ll_grammar.specs.declared.spelling.Spelling.TheVariants.{Any}
 use Rattle.ciborium_ll_grammar.specs.declared.hdr.Header.{Header}
 use Rattle.ciborium_ll_io.specs.declared.io.Read.{Ghosts}
@@ -12,7 +14,7 @@ use Rattle.ciborium_ll_text.proofs.Lists.{length_zero}
 use Rattle.ciborium_ll_grammar.specs.Title.{shortest_title, title_len, IsInRange}
 use Rattle.ciborium_ll_grammar.proofs.TitleLaws.{IsTitle-shortest}
 use Rattle.ciborium_ll_decoder.specs.Decoding.{Begins, IsSteady, MovesOn, ReadsPast, PullsTitle, DecoderPullAnswer, RefusesTitle}
-use Rattle.ciborium_ll_decoder.specs.Decoding.{TakesBack, PullsAgain, spelling_of}
+use Rattle.ciborium_ll_decoder.specs.Decoding.{TakesBack, PullsAgain, failures_of, spelling_of}
 
 -- The exit of a `?` answers with the error that it was given. A caller that names this lemma needs no search.
 pub exit_is : {T E : Type 0} (answer : Result T E) (error : E) → IsErrAnd answer (λ given. given ≡ error)
@@ -75,6 +77,15 @@ pub waited_more : {D : Type 0} (title : Header → List ℕ) (old between new : 
     → IfSome waiting (λ h. (new ≡ old) ⊎ Begins (title h) (bytes ++ more))
 waited_more title old between new bytes more waiting waiting' same first second = grind (arith, begins_more)
 
+-- Without a waiting header nothing is said of one.
+none_waited : (waiting : Option Header) (P : Header → Type 0) → waiting ≡ None → IfSome waiting P
+none_waited waiting P none = rw none tt
+
+-- A list loses its first bytes.
+pub consumes_front : (old new : Option (List ℕ)) (len : ℕ) (left : List ℕ) → old ≡ Some left
+    → new ≡ Some (drop len left) → Consumes old new (take len left)
+consumes_front old new len left was is = rw (was, is) (sym (take-append-drop len left))
+
 module _ {R E : Type 0} (source : Ghosts R E) where
   -- Without a call nothing changed.
   pub MovesOn-none : (decoder : Decoder R) → MovesOn source decoder decoder
@@ -84,6 +95,21 @@ module _ {R E : Type 0} (source : Ghosts R E) where
   pub MovesOn-then : (old between new : Decoder R) → MovesOn source old between → MovesOn source between new
       → MovesOn source old new
   MovesOn-then old between new first second = grind arith
+
+  -- Bytes that the reader gave are passed.
+  pub ReadsPast-given : (old new : Decoder R) (bytes : List ℕ) → old.waiting ≡ None → new.waiting ≡ None
+      → Consumes (source.ahead old.reader) (source.ahead new.reader) bytes → new.offset ≡ old.offset + length bytes
+      → failures_of source new ≡ failures_of source old → spelling_of new ≡ spelling_of old
+      → (IsSteady source old → IsSteady source new) → ReadsPast source old bytes new
+  ReadsPast-given old new bytes none still consumed offset failures mode steady = record {
+    consumed = rw (none, still) consumed;
+    offset = offset;
+    waiting = inr still;
+    waited = none_waited old.waiting _ none;
+    failures = failures;
+    steady = steady;
+    mode = mode;
+  }
 
   -- Without a call no bytes passed.
   pub ReadsPast-none : (decoder : Decoder R) → ReadsPast source decoder [] decoder

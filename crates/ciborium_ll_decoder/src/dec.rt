@@ -43,8 +43,8 @@ impl<T> From<T> for Error<T> {
 /// and a strict decoder stays strict. `Io` comes only if the reader failed in that call, once.
 #[derive(Drop)]
 pub struct Decoder<R> {
-    reader: R,
-    offset: usize,
+    pub(crate) reader: R,
+    pub(crate) offset: usize,
     pub(crate) waiting: Option<Header>,
     spelling: Spelling,
     refusals: Failures,

@@ -9,4 +9,5 @@ pub mod dec;
 mod messages;
 pub mod seg;
 pub mod skip;
+mod slice;
 pub mod title;

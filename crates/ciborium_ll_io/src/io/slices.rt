@@ -1,6 +1,6 @@
 //! A reader and a writer over slices.
 
-ghost use Rattle.std.specs.Prelude.{true, ◌≡◌, ◌≤◌, ◌++◌, [], Some, drop, length, refl};
+ghost use Rattle.std.specs.Prelude.{true, ◌≡◌, ◌≤◌, ◌++◌, ℕ, List, [], IfSome, Some, drop, length, refl};
 
 use super::failures::Failures;
 use super::taken::Taken;
@@ -34,6 +34,17 @@ impl<'a> SliceReader<'a> {
         ensures { ⟦<SliceReader<'a> as Read>⟧.ahead self.now ≡ Some result.now }
     {
         self.left
+    }
+
+    /// Gives up the first `len` bytes that are left, as if a caller had read them.
+    pub fn consume(&mut self, len: usize)
+        requires { IfSome (⟦<SliceReader<'a> as Read>⟧.ahead self.old) (λ left. len ≤ length left) }
+        ensures ahead { (left : List ℕ) → ⟦<SliceReader<'a> as Read>⟧.ahead self.old ≡ Some left
+            → ⟦<SliceReader<'a> as Read>⟧.ahead self.new ≡ Some (drop len left) }
+        ensures failures { ⟦<SliceReader<'a> as Read>⟧.failures self.new
+            ≡ ⟦<SliceReader<'a> as Read>⟧.failures self.old }
+    {
+        self.left = &self.left[len..];
     }
 }
 
