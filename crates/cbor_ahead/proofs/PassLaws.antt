@@ -34,10 +34,6 @@ front_taken len room bytes less =
     sym (take-append-le len (take room bytes) (drop room bytes) less)
     ∙ ap (λ (z : List ℕ). take len z) (take-append-drop room bytes)
 
--- Without a waiting header nothing is said of one.
-none_waited : (waiting : Option Header) (P : Header → Type 0) → waiting ≡ None → IfSome waiting P
-none_waited waiting P none = rw none tt
-
 -- A nest that counts no items takes any number.
 takes_any : (header : Header) (count : ℕ) → IsNest header → item_count header ≡ None → TakesMore header count
 takes_any header count nest none = grind arith
@@ -56,21 +52,6 @@ open_completes s header depth count items may are = absurd cc
 
 module _ {R E : Type 0} (source : Ghosts R E) where
   -- ---- bytes
-
-  -- Bytes that the reader gave are passed.
-  pub passes : (old new : Decoder R) (bytes : List ℕ) → old.waiting ≡ None → new.waiting ≡ None
-      → Consumes (source.ahead old.reader) (source.ahead new.reader) bytes → new.offset ≡ old.offset + length bytes
-      → failures_of source new ≡ failures_of source old → spelling_of new ≡ spelling_of old
-      → (IsSteady source old → IsSteady source new) → ReadsPast source old bytes new
-  passes old new bytes none still consumed offset failures mode steady = record {
-    consumed = rw (none, still) consumed;
-    offset = offset;
-    waiting = inr still;
-    waited = none_waited old.waiting _ none;
-    failures = failures;
-    steady = steady;
-    mode = mode;
-  }
 
   -- Items that the bytes begin with are read.
   pub passes_items : (old new : Decoder R) (depth count : ℕ) (bytes : List ℕ) → old.waiting ≡ None

@@ -1,6 +1,7 @@
 ghost use Rattle.std.specs.Prelude.{◌≤◌};
 
 use crate::shared::holds_at;
+use cbor_ahead::skip_slice;
 use cbor_skip::{SkipError, skip_after, skip_item};
 use ciborium_ll::io::{Read, SliceReader};
 use ciborium_ll::{Decoder, Error};
@@ -67,11 +68,22 @@ fn answer_after_header(depth: usize, bytes: &[u8]) -> Answer
     answer_of(&outcome, decoder.offset())
 }
 
-// Compares the answers for the item that the bytes begin with: that of a skip, and that of a skip after the header.
+// Skips the item that the bytes begin with as one of a slice.
+fn answer_of_slice(depth: usize, bytes: &[u8]) -> Answer
+    requires { depth ≤ 256 }
+{
+    let mut decoder = Decoder::from(SliceReader::new(bytes));
+    let outcome = skip_slice(&mut decoder, depth, &mut [0; 4]);
+    answer_of(&outcome, decoder.offset())
+}
+
+// Compares the answers for the item that the bytes begin with: that of a skip, that of a skip after the header, and
+// that of a skip of a slice.
 pub fn item_row(rt: &impl Abort, depth: usize, bytes: &[u8], want: Answer) {
     let is_right = depth <= 256
         && answer_for(depth, bytes) == want
-        && answer_after_header(depth, bytes) == want;
+        && answer_after_header(depth, bytes) == want
+        && answer_of_slice(depth, bytes) == want;
     holds_at(rt, is_right, bytes);
 }
 

@@ -2,6 +2,7 @@ ghost use Rattle.std.specs.Prelude.{◌≤◌};
 
 use crate::shared::{holds, holds_at};
 use crate::skip::answers::{Answer, NESTED, item_row, skipped};
+use cbor_ahead::skip_slice;
 use ciborium_ll::io::{SliceReader, StdReader};
 use ciborium_ll::{Decoder, Header};
 use std::process::Abort;
@@ -87,6 +88,31 @@ fn what_is_left(rt: HostRuntime) {
     left_row(&rt, 0, &[0xff, 7, 8, 9], 3);
     left_row(&rt, 0, &[0xd8, 1, 7, 8], 2);
     left_row(&rt, 1, &[0x81, 0xff, 7, 8], 2);
+}
+
+// Skips an item of eleven bytes and another one as those of a slice, and compares the bytes that are left.
+#[test]
+fn items_of_a_slice(rt: HostRuntime) {
+    let bytes = [0x82, 1, 0x68, 97, 98, 99, 100, 101, 102, 103, 104, 2, 7];
+    let mut decoder = Decoder::from(SliceReader::new(&bytes));
+    let is_skipped = skip_slice(&mut decoder, 1, &mut [0; 4]).is_ok();
+    let is_right = is_skipped && decoder.offset() == 11 && decoder.left() == [2, 7].as_slice();
+    holds(&rt, is_right, "the first item");
+    let is_skipped = skip_slice(&mut decoder, 1, &mut [0; 4]).is_ok();
+    let is_right = is_skipped && decoder.offset() == 12 && decoder.left() == [7].as_slice();
+    holds(&rt, is_right, "the second item");
+}
+
+// Gives up two of three bytes that are left, by a decoder and by its reader.
+#[test]
+fn bytes_of_a_slice(rt: HostRuntime) {
+    let mut decoder = Decoder::from(SliceReader::new(&[1, 2, 3]));
+    decoder.consume(2);
+    let is_right = decoder.offset() == 2 && decoder.left() == [3].as_slice();
+    holds(&rt, is_right, "a decoder");
+    let mut reader = SliceReader::new(&[1, 2, 3]);
+    reader.consume(2);
+    holds(&rt, reader.left() == [3].as_slice(), "a reader");
 }
 
 // Pulls a header, and gives it back.
