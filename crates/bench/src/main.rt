@@ -13,9 +13,9 @@ use std::io::{self, Read};
 use std::process::ExitCode;
 
 fn main(rt: HostRuntime) -> ExitCode {
-    let Ok(Some(task)) = task_of(&rt) else {
+    let Ok(Some(task)) = parse_task(&rt) else {
         let _ = eprintln!(rt;
-            "usage: bench pull|strict-pull|push|recode|strict-recode|skip|items|flat|text SIZE COUNT ROUNDS"
+            "usage: bench pull|strict-pull|push|recode|strict-recode|skip|items|slice|flat|text SIZE COUNT ROUNDS"
         );
         return ExitCode::from(2);
     };
@@ -29,7 +29,7 @@ fn main(rt: HostRuntime) -> ExitCode {
 }
 
 /// Returns the task that the words after the program's name ask for, or `None` if they ask for none.
-fn task_of(rt: &HostRuntime) -> io::Result<Option<Task>> {
+fn parse_task(rt: &HostRuntime) -> io::Result<Option<Task>> {
     let mut words = Vec::new(rt.alloc());
     for word in env::args(rt)?.skip(1) {
         if words.push(word).is_err() {
@@ -39,7 +39,7 @@ fn task_of(rt: &HostRuntime) -> io::Result<Option<Task>> {
     if words.len() != 4 {
         return Ok(None);
     }
-    let Some(work) = work_named(words[0].as_str()) else {
+    let Some(work) = work_from_name(words[0].as_str()) else {
         return Ok(None);
     };
     match (
@@ -58,7 +58,7 @@ fn task_of(rt: &HostRuntime) -> io::Result<Option<Task>> {
 }
 
 /// Returns the work of this name, if there is one.
-fn work_named(name: &str) -> Option<Work> {
+fn work_from_name(name: &str) -> Option<Work> {
     match name {
         "pull" => Some(Work::Pull),
         "strict-pull" => Some(Work::StrictPull),
@@ -67,6 +67,7 @@ fn work_named(name: &str) -> Option<Work> {
         "strict-recode" => Some(Work::StrictRecode),
         "skip" => Some(Work::Skip),
         "items" => Some(Work::Items),
+        "slice" => Some(Work::Slice),
         "flat" => Some(Work::Flat),
         "text" => Some(Work::Text),
         _ => None,
@@ -78,5 +79,5 @@ fn work_through(rt: &HostRuntime, task: &Task) -> io::Result<u64> {
     let mut input = Vec::new(rt.alloc());
     rt.reader().read_to_end(&mut input)?;
     let mut output = vec![in rt.alloc(); 0u8; input.len().saturating_mul(2)]?;
-    Ok(task.rounds_over(input.as_slice(), output.as_mut_slice()))
+    Ok(task.run_rounds(input.as_slice(), output.as_mut_slice()))
 }

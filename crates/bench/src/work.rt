@@ -3,6 +3,7 @@
 ghost use Rattle.std.specs.Prelude.{◌≤◌, length};
 ghost use Rattle.ciborium_ll.specs.Limits.{LEAST_BUFFER};
 
+use cbor_ahead::skip_slice;
 use cbor_skip::skip_item;
 use ciborium_ll::io::{SliceReader, SliceWriter};
 use ciborium_ll::limits::MOST_LEVELS;
@@ -30,6 +31,8 @@ pub enum Work {
     Skip,
     /// It skips items.
     Items,
+    /// It skips items of a slice by a checker.
+    Slice,
     /// It pulls headers and skips bodies of strings, whatever contains them.
     Flat,
     /// It writes the bytes as a text.
@@ -51,7 +54,7 @@ pub struct Task {
 
 impl Task {
     /// Runs the work `rounds` times, and returns the sum of the rounds' results.
-    pub fn rounds_over(&self, input: &[u8], output: &mut [u8]) -> u64 {
+    pub fn run_rounds(&self, input: &[u8], output: &mut [u8]) -> u64 {
         let task = *self;
         let mut space = [0; MOST_SIZE];
         let buffer = &mut space[..task.size.clamp(4, MOST_SIZE)];
@@ -59,15 +62,16 @@ impl Task {
         let mut sum = 0;
         'rounds: for _ in 0..task.rounds {
             sum = match task.work {
-                Work::Pull => pulled(input, sum),
-                Work::StrictPull => strictly_pulled(input, sum),
-                Work::Push => pushed(input, output, sum),
-                Work::Recode => recoded(input, output, task.count, buffer, sum),
-                Work::StrictRecode => strictly_recoded(input, output, task.count, buffer, sum),
-                Work::Skip => skipped(input, buffer, sum),
-                Work::Items => items_skipped(input, task.count, buffer, sum),
-                Work::Flat => bodies_skipped(input, buffer, sum),
-                Work::Text => written(text, task.size, output, sum),
+                Work::Pull => pull_headers(input, sum),
+                Work::StrictPull => pull_strictly(input, sum),
+                Work::Push => push_headers(input, output, sum),
+                Work::Recode => copy_elements(input, output, task.count, buffer, sum),
+                Work::StrictRecode => copy_strictly(input, output, task.count, buffer, sum),
+                Work::Skip => skip_string(input, buffer, sum),
+                Work::Items => skip_items(input, task.count, buffer, sum),
+                Work::Slice => skip_slices(input, task.count, buffer, sum),
+                Work::Flat => skip_bodies(input, buffer, sum),
+                Work::Text => write_text(text, task.size, output, sum),
             };
         }
         sum
@@ -76,14 +80,14 @@ impl Task {
 
 /// Adds the numbers of the positive headers, and 1 for each other title.
 #[inline(never)]
-fn pulled(input: &[u8], before: u64) -> u64 {
-    pulled_by(Decoder::from(SliceReader::new(input)), input.len(), before)
+fn pull_headers(input: &[u8], before: u64) -> u64 {
+    pull_by(Decoder::from(SliceReader::new(input)), input.len(), before)
 }
 
 /// Adds the numbers of the positive headers, and 1 for each other title, by a strict decoder.
 #[inline(never)]
-fn strictly_pulled(input: &[u8], before: u64) -> u64 {
-    pulled_by(
+fn pull_strictly(input: &[u8], before: u64) -> u64 {
+    pull_by(
         Decoder::strict(SliceReader::new(input)),
         input.len(),
         before,
@@ -92,7 +96,7 @@ fn strictly_pulled(input: &[u8], before: u64) -> u64 {
 
 /// Adds the numbers of the positive headers, and 1 for each other title, by this decoder, over at most `most` titles.
 #[inline(always)]
-fn pulled_by(mut decoder: Decoder<SliceReader<'_>>, most: usize, before: u64) -> u64 {
+fn pull_by(mut decoder: Decoder<SliceReader<'_>>, most: usize, before: u64) -> u64 {
     let mut sum: u64 = before;
     'titles: for _ in 0..most {
         match decoder.pull() {
@@ -106,7 +110,7 @@ fn pulled_by(mut decoder: Decoder<SliceReader<'_>>, most: usize, before: u64) ->
 
 /// Adds the number of titles written.
 #[inline(never)]
-fn pushed(input: &[u8], output: &mut [u8], before: u64) -> u64 {
+fn push_headers(input: &[u8], output: &mut [u8], before: u64) -> u64 {
     let mut decoder = Decoder::from(SliceReader::new(input));
     let mut encoder = Encoder::from(SliceWriter::new(output));
     let mut sum: u64 = before;
@@ -127,10 +131,16 @@ fn pushed(input: &[u8], output: &mut [u8], before: u64) -> u64 {
 
 /// Adds the number of bytes of the elements, if they were copied.
 #[inline(never)]
-fn recoded(input: &[u8], output: &mut [u8], count: usize, buffer: &mut [u8], before: u64) -> u64
+fn copy_elements(
+    input: &[u8],
+    output: &mut [u8],
+    count: usize,
+    buffer: &mut [u8],
+    before: u64,
+) -> u64
     requires room { LEAST_BUFFER ≤ length buffer.old }
 {
-    recoded_by(
+    copy_by(
         Decoder::from(SliceReader::new(input)),
         output,
         count,
@@ -141,7 +151,7 @@ fn recoded(input: &[u8], output: &mut [u8], count: usize, buffer: &mut [u8], bef
 
 /// Adds the number of bytes of the elements, if a strict decoder copied them.
 #[inline(never)]
-fn strictly_recoded(
+fn copy_strictly(
     input: &[u8],
     output: &mut [u8],
     count: usize,
@@ -150,7 +160,7 @@ fn strictly_recoded(
 ) -> u64
     requires room { LEAST_BUFFER ≤ length buffer.old }
 {
-    recoded_by(
+    copy_by(
         Decoder::strict(SliceReader::new(input)),
         output,
         count,
@@ -161,7 +171,7 @@ fn strictly_recoded(
 
 /// Adds the number of bytes of the elements, if this decoder copied them.
 #[inline(always)]
-fn recoded_by(
+fn copy_by(
     mut decoder: Decoder<SliceReader<'_>>,
     output: &mut [u8],
     count: usize,
@@ -179,7 +189,7 @@ fn recoded_by(
 
 /// Adds the number of bytes of the string, if it was read to its end.
 #[inline(never)]
-fn skipped(input: &[u8], buffer: &mut [u8], before: u64) -> u64
+fn skip_string(input: &[u8], buffer: &mut [u8], before: u64) -> u64
     requires room { LEAST_BUFFER ≤ length buffer.old }
 {
     let mut decoder = Decoder::from(SliceReader::new(input));
@@ -196,7 +206,7 @@ fn skipped(input: &[u8], buffer: &mut [u8], before: u64) -> u64
 
 /// Adds the number of bytes of the items, if all of them were skipped.
 #[inline(never)]
-fn items_skipped(input: &[u8], count: usize, buffer: &mut [u8], before: u64) -> u64
+fn skip_items(input: &[u8], count: usize, buffer: &mut [u8], before: u64) -> u64
     requires room { LEAST_BUFFER ≤ length buffer.old }
 {
     let mut decoder = Decoder::from(SliceReader::new(input));
@@ -208,9 +218,23 @@ fn items_skipped(input: &[u8], count: usize, buffer: &mut [u8], before: u64) -> 
     before.wrapping_add(decoder.offset() as u64)
 }
 
+/// Adds the number of bytes of the items, if all of them were skipped by a checker.
+#[inline(never)]
+fn skip_slices(input: &[u8], count: usize, buffer: &mut [u8], before: u64) -> u64
+    requires room { LEAST_BUFFER ≤ length buffer.old }
+{
+    let mut decoder = Decoder::from(SliceReader::new(input));
+    'items: for _ in 0..count {
+        if skip_slice(&mut decoder, MOST_LEVELS, buffer).is_err() {
+            return before;
+        }
+    }
+    before.wrapping_add(decoder.offset() as u64)
+}
+
 /// Adds the number of bytes read.
 #[inline(never)]
-fn bodies_skipped(input: &[u8], buffer: &mut [u8], before: u64) -> u64
+fn skip_bodies(input: &[u8], buffer: &mut [u8], before: u64) -> u64
     requires room { LEAST_BUFFER ≤ length buffer.old }
 {
     let mut decoder = Decoder::from(SliceReader::new(input));
@@ -230,7 +254,7 @@ fn bodies_skipped(input: &[u8], buffer: &mut [u8], before: u64) -> u64
 
 /// Adds the number of bytes that the text has in segments.
 #[inline(never)]
-fn written(text: &str, limit: usize, output: &mut [u8], before: u64) -> u64 {
+fn write_text(text: &str, limit: usize, output: &mut [u8], before: u64) -> u64 {
     let mut encoder = Encoder::from(SliceWriter::new(output));
     match encoder.text(text, Some(limit)) {
         Ok(()) => before.wrapping_add(encoder.into_inner().written().len() as u64),

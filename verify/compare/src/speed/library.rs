@@ -44,6 +44,8 @@ enum Beside {
     Memory,
     /// Our own pulls and bodies alone, with no look at what contains them.
     Flat,
+    /// Our own skip by a decoder, which reads each title.
+    Titles,
     /// Our own work of this name, by a decoder that isn't strict.
     Plain(&'static str),
 }
@@ -163,6 +165,8 @@ const ROWS: &[Row] = &[
     titles("`skip_item` by 64 bytes", "items", streams::nested_items),
     titles("`skip_item` by 64 bytes", "items", streams::mixed_items).beside(Beside::Flat),
     titles("`skip_item` by 64 bytes", "items", streams::nested_items).beside(Beside::Flat),
+    titles("`skip_slice` by 64 bytes", "slice", streams::mixed_item).beside(Beside::Titles),
+    titles("`skip_slice` by 64 bytes", "slice", streams::nested_item).beside(Beside::Titles),
     strict("headers pulled, strict", "strict-pull", streams::titles, "pull"),
     strict("`recode` by 64 bytes, strict", "strict-recode", streams::titles, "recode"),
     strict("`recode` by 64 bytes, strict", "strict-recode", streams::mixed, "recode"),
@@ -193,6 +197,7 @@ fn measure_row(asked: &Asked, row: &Row) -> io::Result<()> {
         Beside::Branches => ("one branch a title", &asked.original, "walk"),
         Beside::Memory => ("a copy of memory", &asked.original, "copy"),
         Beside::Flat => ("a bare loop of `pull`", &asked.bench, "flat"),
+        Beside::Titles => ("`skip_item`", &asked.bench, "items"),
         Beside::Plain(work) => ("a decoder not strict", &asked.bench, work),
     };
     let ours = match row.beside {

@@ -7,7 +7,7 @@ use compare::title::shortest;
 pub struct Stream {
     /// The name in the table.
     pub name: &'static str,
-    /// How many elements it has.
+    /// How many elements it has, or how many items.
     pub count: usize,
     /// Their bytes.
     pub bytes: Vec<u8>,
@@ -213,10 +213,10 @@ pub fn short_texts(size: usize) -> Stream {
     array_of(stream, texts)
 }
 
-/// Returns an array of these items, as one item.
+/// Returns an array of these items. It counts as one item.
 fn array_of(items: Stream, count: usize) -> Stream {
     let bytes = [shortest(4, count as u64), items.bytes].concat();
-    Stream { name: items.name, count: items.count + 1, bytes }
+    Stream { name: items.name, count: 1, bytes }
 }
 
 /// Adds a small value.
