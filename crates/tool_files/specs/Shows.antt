@@ -10,7 +10,8 @@ use Rattle.ciborium_ll.specs.Types.ReadFault.{ReadFault}
 use Rattle.ciborium_ll.specs.Types.Write.{Ghosts as Sink}
 use Rattle.ciborium_ll.specs.Decoding.{IsFreshAs}
 use Rattle.ciborium_ll.specs.Sides.{sides}
-use Rattle.ciborium_ll_streams.specs.Buffers.{buffered_read_fault, keeping_fault, keeping_held, keeping_source}
+use Rattle.ciborium_ll_streams.specs.Buffers.{buffered_read_fault, keeping_capacity, keeping_fault, keeping_held}
+use Rattle.ciborium_ll_streams.specs.Buffers.{keeping_source}
 use Rattle.cbor_skip.specs.declared.SkipError.{SkipError}
 use Rattle.cbor_skip.specs.Skipping.{StopsCounted}
 use Rattle.cbor_dump.specs.Checking.{ReadsAsCheck}
@@ -27,6 +28,7 @@ use Rattle.tool_verdicts.specs.declared.items.Form.TheVariants as f
 use Rattle.tool_verdicts.specs.declared.verdict.Verdict.{Verdict}
 use Rattle.tool_files.specs.Fences.{IsFenced, fence_depth, fence_source}
 use Rattle.tool_files.specs.Inputs.{BeginsInput}
+use Rattle.tool_files.specs.declared.check.TheConstants.{ROOM}
 use Rattle.tool_files.specs.declared.fence.Fence.{Fence}
 use Rattle.tool_files.specs.declared.options.Options.{Options}
 
@@ -119,6 +121,7 @@ module _ {T E F : Type 0} (reads : Ghosts (KeepingReader T) E) (fences : Ghosts 
     pub start : KeepingReader T
     pub source : keeping_source start ≡ reader
     pub none_held : keeping_held start ≡ []
+    pub room : keeping_capacity start ≡ ROOM
     pub old : Decoder (KeepingReader T)
     pub fresh : IsFreshAs allowed start 0 old
     pub part : DumpsPart allowed skip most depth old result
