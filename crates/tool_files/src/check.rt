@@ -5,10 +5,11 @@ ghost use Rattle.tool_files.specs.Inputs.{ChecksInput, CountsItems};
 
 use crate::arguments::Options;
 use cbor_ahead::AHEAD;
+use ciborium_ll::Decoder;
 use ciborium_ll::io::{BufferedReader, Read};
 use std::io;
 use tool_verdicts::ahead::judge_ahead;
-use tool_verdicts::check::{decoder_of, prefer_failure};
+use tool_verdicts::check::prefer_failure;
 use tool_verdicts::verdict::Verdict;
 
 /// How many bytes are read ahead at most.
@@ -32,7 +33,7 @@ pub fn check_input<R: io::Read + Drop>(reader: R, options: Options) -> Verdict
     // A fault of digits that are read ahead is said first, so only a few are.
     let room = if options.hex { ROOM } else { AHEAD };
     let reader = BufferedReader::new(reader, &mut ahead[..room]);
-    let decoder = decoder_of(reader, options.spelling);
+    let decoder = Decoder::with_spelling(reader, options.spelling, 0);
     let (decoder, verdict) = judge_ahead(
         decoder,
         options.skip,

@@ -26,7 +26,7 @@ use std::cell::RefCell;
 use std::fmt::Write;
 use std::io;
 use std::io::Write as _;
-use tool_verdicts::check::{BUFFER_SIZE, decoder_of, fault_of, prefer_failure};
+use tool_verdicts::check::{BUFFER_SIZE, fault_of, prefer_failure};
 use tool_verdicts::dump::{dump_verdict, show_left};
 use tool_verdicts::items::EMBEDDED_ROOM;
 use tool_verdicts::verdict::Verdict;
@@ -266,7 +266,7 @@ fn dump_rows<R: io::Read + Drop, W: io::Write>(
 {
     let mut ahead = [0; ROOM];
     let reader = KeepingReader::new(reader, &mut ahead);
-    let mut decoder = decoder_of(reader, options.spelling);
+    let mut decoder = Decoder::with_spelling(reader, options.spelling, 0);
     let mut buffer = [0; BUFFER_SIZE];
     if let Err(error) = skip_items(&mut decoder, options.skip, options.depth, &mut buffer) {
         let verdict = fault_of(error, decoder.offset());

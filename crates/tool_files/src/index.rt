@@ -6,13 +6,14 @@ ghost use Rattle.tool_files.specs.Indexes.{IndexesInput, span_line};
 use crate::arguments::Options;
 use crate::check::ROOM;
 use crate::shared::{Prompt, Shared};
+use ciborium_ll::Decoder;
 use ciborium_ll::io::{BufferedReader, Read};
 use std::alloc::{AllocError, Global};
 use std::cell::RefCell;
 use std::fmt::Write;
 use std::io;
 use std::io::Write as _;
-use tool_verdicts::check::{decoder_of, prefer_failure};
+use tool_verdicts::check::prefer_failure;
 use tool_verdicts::part::{Span, Spans, index_part};
 use tool_verdicts::verdict::Verdict;
 
@@ -90,7 +91,7 @@ fn index_items<R: io::Read + Drop, S: Spans>(
 {
     let mut ahead = [0; ROOM];
     let reader = BufferedReader::new(reader, &mut ahead);
-    let mut decoder = decoder_of(reader, options.spelling);
+    let mut decoder = Decoder::with_spelling(reader, options.spelling, 0);
     let found = index_part(
         &mut decoder,
         options.skip,

@@ -5,10 +5,10 @@ ghost use Rattle.tool_files.specs.Shows.{WritesInput};
 use crate::arguments::Options;
 use crate::check::ROOM;
 use crate::shared::{Prompt, Shared};
+use ciborium_ll::Decoder;
 use ciborium_ll::io::{BufferedReader, BufferedWriter, Read, SliceReader, Write, WriteFault};
 use std::cell::RefCell;
 use std::io;
-use tool_verdicts::check::decoder_of;
 use tool_verdicts::items::{Form, items_verdict, write_part};
 use tool_verdicts::verdict::Verdict;
 
@@ -136,7 +136,7 @@ fn write_items<R: io::Read + Drop, W: Write>(
 {
     let mut ahead = [0; ROOM];
     let reader = BufferedReader::new(reader, &mut ahead);
-    let mut decoder = decoder_of(reader, options.spelling);
+    let mut decoder = Decoder::with_spelling(reader, options.spelling, 0);
     let outcome = write_part(
         &mut decoder,
         writer,

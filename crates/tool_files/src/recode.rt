@@ -15,12 +15,12 @@ use crate::options::Options;
 use cbor_checker::Fault;
 use cbor_dump::counted::skip_items;
 use cbor_item_copier::{ItemCopier, Progress};
-use ciborium_ll::Spelling;
+use ciborium_ll::Decoder;
 use ciborium_ll::io::{KeepingReader, StdWriter, Write, WriteFault};
 use ciborium_ll::limits::LONGEST_AFFIX;
 use std::io;
 use std::io::{Chain, Read as _};
-use tool_verdicts::check::{BUFFER_SIZE, decoder_of, fault_of, prefer_failure};
+use tool_verdicts::check::{BUFFER_SIZE, fault_of, prefer_failure};
 use tool_verdicts::verdict::Verdict;
 
 /// How many bytes there is room for beside a piece: those of a title that an earlier piece began, and as many that a
@@ -244,7 +244,7 @@ pub fn copy_part<R: io::Read + Drop, W: io::Write>(
         options.items due written result.1 result.0 }
 {
     let mut ahead = [0; ROOM];
-    let mut decoder = decoder_of(KeepingReader::new(reader, &mut ahead), Spelling::Any);
+    let mut decoder = Decoder::from(KeepingReader::new(reader, &mut ahead));
     let mut buffer = [0; BUFFER_SIZE];
     if let Err(error) = skip_items(&mut decoder, options.skip, options.depth, &mut buffer) {
         let verdict = fault_of(error, decoder.offset());

@@ -1,7 +1,7 @@
 //! The verdict of a check on an input.
 
 ghost use Rattle.std.specs.Prelude.{◌≡◌, ◌≤◌, ◌↔◌, ℕ, List};
-ghost use Rattle.ciborium_ll.specs.Decoding.{IsFreshAs, offset_of, spelling_of};
+ghost use Rattle.ciborium_ll.specs.Decoding.{offset_of, spelling_of};
 ghost use Rattle.ciborium_ll.specs.Items.{IsItem};
 ghost use Rattle.ciborium_ll.specs.Premises.{CanRead};
 ghost use Rattle.cbor_dump.specs.Sequences.{IsSequence};
@@ -15,17 +15,10 @@ use cbor_dump::sequence::{Sequence, Stopped, check};
 use cbor_dump::single::{NotOne, check_one};
 use cbor_skip::SkipError;
 use ciborium_ll::io::{Read, ReadFault};
-use ciborium_ll::{Decoder, Error, Spelling};
+use ciborium_ll::{Decoder, Error};
 
 /// How many bytes of a string are read at once.
 pub const BUFFER_SIZE: usize = 512;
-
-/// Makes a decoder of this spelling at the start of a reader's bytes.
-pub fn decoder_of<R: Read>(reader: R, spelling: Spelling) -> Decoder<R>
-    ensures { IsFreshAs spelling reader 0 result }
-{
-    Decoder::with_spelling(reader, spelling, 0)
-}
 
 /// Returns the verdict, or the error of a read that failed for another reason than the end.
 pub fn prefer_failure(fault: Option<ReadFault>, verdict: Verdict) -> Verdict

@@ -6,20 +6,20 @@ pub returns-clause-counts : goal.returns-clause-counts
 returns-clause-counts g c =
     verdict_counted _ c.args.options.spelling c.args.options.skip c.args.options.items c.args.options.one
     c.args.options.depth (g.R.Read.remaining c.args.reader)
-    c.new-reader.result c.decoder_of-decoder.result c.judge_ahead-decoder.result.0 c.judge_ahead-decoder.result.1
-    c.prefer_failure.result c.into_parts-fault.result.2 c.decoder_of-decoder.ensures c.new-reader.ensures.ahead
+    c.new-reader.result c.with_spelling-decoder.result c.judge_ahead-decoder.result.0 c.judge_ahead-decoder.result.1
+    c.prefer_failure.result c.into_parts-fault.result.2 c.with_spelling-decoder.ensures c.new-reader.ensures.ahead
     c.judge_ahead-decoder.ensures c.prefer_failure.ensures
 
 pub returns-clause-checks : goal.returns-clause-checks
 returns-clause-checks g c = record {
-  old = c.decoder_of-decoder.result;
+  old = c.with_spelling-decoder.result;
   new = c.judge_ahead-decoder.result.0;
   found = c.judge_ahead-decoder.result.1;
   begins = record {
     start = c.new-reader.result;
     source = c.new-reader.ensures.source;
     none_ahead = c.new-reader.ensures.read_ahead;
-    fresh = c.decoder_of-decoder.ensures;
+    fresh = c.with_spelling-decoder.ensures;
   };
   says = c.judge_ahead-decoder.ensures;
   said = first_of (

@@ -8,8 +8,8 @@ returns-in-Err g c = record {
   source = c.new-reader.ensures.source;
   none_held = c.new-reader.ensures.held;
   room = c.new-reader.ensures.capacity;
-  old = c.decoder_of-decoder.result;
-  fresh = c.decoder_of-decoder.ensures;
+  old = c.with_spelling-decoder.result;
+  fresh = c.with_spelling-decoder.ensures;
   part = dumps_none c.in-Err.error c.skip_items.new.decoder c.in-Err.ensures.skipped (ap Err (first_of (
     cc (
       c.prefer_failure.ensures,
@@ -29,8 +29,8 @@ returns-in-None g c = record {
   source = c.new-reader.ensures.source;
   none_held = c.new-reader.ensures.held;
   room = c.new-reader.ensures.capacity;
-  old = c.decoder_of-decoder.result;
-  fresh = c.decoder_of-decoder.ensures;
+  old = c.with_spelling-decoder.result;
+  fresh = c.with_spelling-decoder.ensures;
   part = dumps_rest c.skip_items.new.decoder
       (record { reads = c.in_default.ensures.skipped; none = c.in_default.ensures.none })
       (rw c.in-None.is (record {
@@ -48,8 +48,8 @@ returns-in-Some g c = record {
   source = c.new-reader.ensures.source;
   none_held = c.new-reader.ensures.held;
   room = c.new-reader.ensures.capacity;
-  old = c.decoder_of-decoder.result;
-  fresh = c.decoder_of-decoder.ensures;
+  old = c.with_spelling-decoder.result;
+  fresh = c.with_spelling-decoder.ensures;
   part = dumps_rest c.skip_items.new.decoder
       (record { reads = c.in_default.ensures.skipped; none = c.in_default.ensures.none })
       (rw c.in-Some.is (record {

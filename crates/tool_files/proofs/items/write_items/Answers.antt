@@ -3,14 +3,14 @@ use Rattle.tool_files.proofs.items.write_items.Goals as goal
 
 pub returns : goal.returns
 returns g c = record {
-  old = c.decoder_of-decoder.result;
+  old = c.with_spelling-decoder.result;
   new = c.write_part-outcome.new.decoder;
   outcome = c.write_part-outcome.result;
   begins = record {
     start = c.new-reader.result;
     source = c.new-reader.ensures.source;
     none_ahead = c.new-reader.ensures.read_ahead;
-    fresh = c.decoder_of-decoder.ensures;
+    fresh = c.with_spelling-decoder.ensures;
   };
   written = c.write_part-outcome.ensures;
   said = first_of (
