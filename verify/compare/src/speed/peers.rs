@@ -19,13 +19,21 @@ const WHOLE: usize = 1 << 30;
 /// A timed run of a program that is compiled while it runs takes at least this many seconds.
 const LEAST_WARM: f64 = 2.0;
 
+/// A timed run of such a program has at least this many rounds.
+const LEAST_ROUNDS: usize = 64;
+
 /// A library, as the table names it, and the name of the program that does its works.
 struct Side {
     name: &'static str,
     program: &'static str,
-    /// Whether the program is machine code, whose instructions are counted, and writes the same as ours.
+    /// Whether the program is machine code, and writes the same as ours.
     is_native: bool,
+    /// Whether its instructions are counted. Go's collector takes more or fewer of them from run to run.
+    is_counted: bool,
 }
+
+/// The library for C.
+const OURS: Side = native("ours", "calls");
 
 /// All others beside ours.
 const OTHERS: &[Side] = &[
@@ -33,14 +41,14 @@ const OTHERS: &[Side] = &[
     native("libcbor", "libcbor"),
     native("serde_cbor", "serde"),
     native("nlohmann", "nlohmann"),
-    native("fxamacker", "fxamacker"),
+    Side { is_counted: false, ..native("fxamacker", "fxamacker") },
     native("Qt", "qt"),
-    Side { name: "Jackson", program: "jackson", is_native: false },
+    Side { name: "Jackson", program: "jackson", is_native: false, is_counted: false },
 ];
 
 /// Returns a library whose program is machine code.
 const fn native(name: &'static str, program: &'static str) -> Side {
-    Side { name, program, is_native: true }
+    Side { name, program, is_native: true, is_counted: true }
 }
 
 /// A call of ours, with its work and the works of the others. The works are words of the programs.
@@ -116,14 +124,14 @@ fn measure_item(asked: &Asked, call: &Call, item: &Stream) -> io::Result<()> {
     if sum.is_none() {
         return Err(failed(&format!("{} over {} fails", call.name, item.name)));
     }
-    let ours = taken(asked, &asked.calls, true, call.work, call, &input)?;
+    let ours = taken(asked, &OURS, &asked.calls, call.work, call, &input)?;
     let mut cells = Vec::new();
     for side in OTHERS {
         let work = call.others[usize::from(side.program != "libcbor")];
         let program = programs.join(side.program).to_string_lossy().into_owned();
         let found = sum_of(&program, work, call, &input);
         cells.push(if found == sum || !side.is_native && found.is_some() {
-            let other = taken(asked, &program, side.is_native, work, call, &input)?;
+            let other = taken(asked, side, &program, work, call, &input)?;
             let by_time = ratio(Some(ours.seconds), Some(other.seconds));
             match other.instructions {
                 Some(_) => format!("{by_time}, {}", ratio(ours.instructions, other.instructions)),
@@ -152,9 +160,8 @@ fn sum_of(program: &str, work: &str, call: &Call, input: &Input) -> Option<Vec<u
 }
 
 /// Returns the time and the instructions of a work. From the least time of many rounds goes that of none.
-fn taken(asked: &Asked, program: &str, is_native: bool, work: &str, call: &Call, input: &Input) -> io::Result<Taken> {
-    let mut rounds = 1;
-    let due = if is_native { LEAST } else { LEAST_WARM };
+fn taken(asked: &Asked, side: &Side, program: &str, work: &str, call: &Call, input: &Input) -> io::Result<Taken> {
+    let (mut rounds, due) = if side.is_native { (1, LEAST) } else { (LEAST_ROUNDS, LEAST_WARM) };
     let least = |rounds: usize, turns: usize| {
         let sides = [run(program, work, call, rounds), run(program, work, call, 0)];
         best_times(&sides, input, Origin::File, turns).map(|[all, none]| all - none)
@@ -162,7 +169,7 @@ fn taken(asked: &Asked, program: &str, is_native: bool, work: &str, call: &Call,
     while least(rounds, 1)? < due {
         rounds *= 2;
     }
-    let count = |rounds| is_native.then(|| run(program, work, call, rounds).instructions(input).ok()?).flatten();
+    let count = |rounds| side.is_counted.then(|| run(program, work, call, rounds).instructions(input).ok()?).flatten();
     let counts = [1, 2].map(count);
     Ok(Taken {
         seconds: least(rounds, asked.rounds)? / rounds as f64,
