@@ -1,7 +1,7 @@
 //! A decoder over a slice, whose bytes a caller may see before they are read.
 
 ghost use Rattle.std.specs.Prelude.{◌≡◌, ◌+◌, ◌<◌, ◌≤◌, ◌^◌, List, ℕ, IfSome, None, Some, length, take};
-ghost use Rattle.ciborium_ll_decoder.specs.Decoding.{MovesOn, ReadsPast, offset_of, view, waiting_of};
+ghost use Rattle.ciborium_ll_decoder.specs.Decoding.{MovesOn, ReadsPast, offset_of, reader_of, view, waiting_of};
 
 use crate::dec::Decoder;
 use ciborium_ll_io::io::{Read, SliceReader};
@@ -9,7 +9,8 @@ use ciborium_ll_io::io::{Read, SliceReader};
 impl<'a> Decoder<SliceReader<'a>> {
     /// Returns the bytes that are left. A header that waits is not among them.
     pub fn left(&self) -> &[u8]
-        ensures { waiting_of self.now ≡ None → view ⟦<SliceReader<'a> as Read>⟧ self.now ≡ Some result.now }
+        ensures view { waiting_of self.now ≡ None → view ⟦<SliceReader<'a> as Read>⟧ self.now ≡ Some result.now }
+        ensures reader { ⟦<SliceReader<'a> as Read>⟧.ahead (reader_of self.now) ≡ Some result.now }
     {
         self.reader.left()
     }
