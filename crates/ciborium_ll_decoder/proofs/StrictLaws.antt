@@ -1,6 +1,6 @@
 -- A title that a decoder read, by the bytes of its parts.
-use Rattle.std.proofs.Common.{[], ◌≡◌, ℕ, ◌+◌, List, ◌∷◌, length, refl, ap, ◌∙◌, inl, inr, arith, append-nil}
-use Rattle.std.proofs.Common.{length-append, get_or, ◌*◌, ◌/◌, ◌%◌, ◌++◌, ◌<◌, Option, None, Some, Result, Ok, Err}
+use Rattle.std.proofs.Common.{[], ◌≡◌, ℕ, ◌+◌, List, ◌∷◌, length, refl, ap, ◌∙◌, inl, inr, arith, append-nil, sym, take, true, false}
+use Rattle.std.proofs.Common.{length-append, get_or, ◌*◌, ◌/◌, ◌%◌, ◌++◌, ◌<◌, Bool, Option, None, Some, Result, Ok, Err}
 use Rattle.std.proofs.Common.{MatchResult, if◌then◌else◌, ◌&&◌, ◌-◌, ◌^◌}
 use Rattle.std.proofs.lemmas.Bool.Decides.{nat_tests}
 use Rattle.std.proofs.KnownBytes.{Consumes-trans}
@@ -15,12 +15,14 @@ use Rattle.ciborium_ll_decoder.specs.Decoding.{spelling_of}
 use Rattle.ciborium_ll_text.proofs.Lists.{length_zero}
 use Rattle.ciborium_ll_decoder.proofs.BodyLaws.{view_none}
 use Rattle.ciborium_ll_grammar.specs.Spellings.{is_shortest}
-use Rattle.ciborium_ll_grammar.specs.declared.spelling.Spelling.TheVariants.{Shortest}
+use Rattle.ciborium_ll_grammar.specs.declared.spelling.Spelling.{Spelling}
+use Rattle.ciborium_ll_grammar.specs.declared.spelling.Spelling.TheVariants.{Any, Shortest}
 use Rattle.ciborium_ll_grammar.specs.declared.hdr.Minor.{Minor}
 use Rattle.ciborium_ll_grammar.specs.declared.hdr.Minor.TheVariants as m
 use Rattle.ciborium_ll_grammar.specs.declared.hdr.Header.{Header}
 use Rattle.ciborium_ll_grammar.specs.Title.{IsTitle, IsStrictTitle, affix_len, IsRefused, IsNeverOpen, IsReserved}
-use Rattle.ciborium_ll_grammar.specs.Parts.{refused_when_strict, minor_affix, minor_code, parts_bytes}
+use Rattle.ciborium_ll_grammar.specs.Parts.{IsMinor, refused_when_strict, minor_affix, minor_code, parts_bytes}
+use Rattle.ciborium_ll_grammar.proofs.LongerLaws.{parts_header, parts_taken, parts_refused}
 
 -- ---- a title that was read
 
@@ -44,6 +46,18 @@ small_affix minor small = grind (arith, nat_tests)
 -- The minor of an open has no affix.
 pub open_affix : (minor : ℕ) → minor ≡ 31 → affix_len minor ≡ 0
 open_affix minor is = rw is refl
+
+-- A decoder that refuses a title is strict, and the title is not strict.
+pub refuses_strictly : (spelling : Spelling) (refused : Bool) → (is_shortest spelling && refused) ≡ true
+    → (spelling ≡ Shortest) × (refused ≡ true)
+refuses_strictly Any refused e = absurd cc
+refuses_strictly Shortest refused e = (refl, e)
+
+-- A strict decoder takes strict titles alone.
+pub takes_strictly : (spelling : Spelling) (refused : Bool) → (is_shortest spelling && refused) ≡ false
+    → spelling ≡ Shortest → refused ≡ false
+takes_strictly Any refused e is = absurd cc
+takes_strictly Shortest refused e is = e
 
 module _ {R E : Type 0} (source : Ghosts R E) where
   -- The decoder read these bytes, and no header waited before or after.
@@ -83,6 +97,57 @@ module _ {R E : Type 0} (source : Ghosts R E) where
       → old.waiting ≡ None → spelling_of old ≡ Shortest → (IsStrictTitle title header → ⊥) → TitleRead old title new
       → RefusesTitleWhole source old old.offset new
   title_refused old new title header is_title none allowed refused read = search
+
+  -- ---- a title that was read at once
+
+  -- One read of all bytes of a title reads the title.
+  whole_read : (old new : Decoder R) (title : List ℕ) → ReadsAll source old title new → TitleRead old title new
+  whole_read old new title read = grind (arith, view_none)
+
+  -- The decoder read the bytes of these parts and takes them, so `pull` gives the header.
+  pub parts_pulled : (old new : Decoder R) (first : ℕ) (minor : Minor) (header : Header) (bytes : List ℕ) → first < 256
+      → IsMinor minor → parts_bytes (first / 32) minor ≡ bytes → IsTitle (parts_bytes (first / 32) minor) header
+      → (spelling_of new ≡ Shortest → refused_when_strict (first / 32) minor ≡ false) → ReadsAll source old bytes new
+      → PullsTitle source old header new
+  parts_pulled old new first minor header bytes byte is_minor is is_title taken read =
+      title_pulled old new _ header is_title read.none_waited
+      (λ on. parts_taken _ minor header (omega (arith, byte)) is_minor is_title (taken (read.mode ∙ on)))
+      (whole_read old new _ (rw is read))
+
+  -- The decoder read the bytes of these parts. It is strict and they are not, so it refuses them.
+  pub parts_turned_down : (old new : Decoder R) (first : ℕ) (minor : Minor) (bytes : List ℕ) → first < 256
+      → IsMinor minor → parts_bytes (first / 32) minor ≡ bytes → spelling_of new ≡ Shortest
+      → refused_when_strict (first / 32) minor ≡ true → ReadsAll source old bytes new
+      → RefusesTitleWhole source old old.offset new
+  parts_turned_down old new first minor bytes byte is_minor is on refused read =
+      let major : first / 32 < 8 = omega (arith, byte) in
+      let h = parts_header (first / 32) minor major is_minor refused in
+      title_refused old new _ h.0 h.1 read.none_waited (sym read.mode ∙ on)
+      (parts_refused _ minor h.0 major is_minor h.1 refused) (whole_read old new _ (rw is read))
+
+  -- The decoder read a title without an affix. No decoder refuses it.
+  byte_pulled : (old new : Decoder R) (first : ℕ) (minor : Minor) (header : Header) (affix : List ℕ) → first < 256
+      → minor_code minor ≡ first % 32 → minor_affix minor ≡ [] → IsMinor minor
+      → refused_when_strict (first / 32) minor ≡ false → affix_len (first % 32) ≡ 0 → IsTitle (first ∷ []) header
+      → ReadsAll source old (first ∷ take (affix_len (first % 32)) affix) new → PullsTitle source old header new
+  byte_pulled old new first minor header affix byte code none is_minor taken no_affix is_title read =
+      let alone : parts_bytes (first / 32) minor ≡ first ∷ [] =
+      rw none (ap (λ (x : ℕ). x ∷ []) (omega (arith, code))) in
+      parts_pulled old new first minor header _ byte is_minor alone (rw alone is_title) (λ on. taken)
+      (rw no_affix at read)
+
+  pub small_pulled : (old new : Decoder R) (first : ℕ) (header : Header) (affix : List ℕ) → first < 256
+      → first % 32 < 24 → IsTitle (first ∷ []) header
+      → ReadsAll source old (first ∷ take (affix_len (first % 32)) affix) new → PullsTitle source old header new
+  small_pulled old new first header affix byte small is_title read =
+      byte_pulled old new first (m.Small (first % 32)) header affix byte refl refl small refl (small_affix _ small)
+      is_title read
+
+  pub open_pulled : (old new : Decoder R) (first : ℕ) (header : Header) (affix : List ℕ) → first < 256
+      → first % 32 ≡ 31 → IsTitle (first ∷ []) header
+      → ReadsAll source old (first ∷ take (affix_len (first % 32)) affix) new → PullsTitle source old header new
+  open_pulled old new first header affix byte is_open is_title read =
+      byte_pulled old new first m.Open header affix byte (sym is_open) refl tt refl (open_affix _ is_open) is_title read
 
   -- The byte that was read begins no title, so the decoder refuses it.
   refuses : (old new : Decoder R) (read : List ℕ) → old.waiting ≡ None → length read ≡ 1 → IsRefused (get_or read 0 0)

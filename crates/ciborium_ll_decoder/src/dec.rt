@@ -4,10 +4,11 @@ ghost use Rattle.ciborium_ll_grammar.specs.declared.spelling.Spelling.TheVariant
 ghost use Rattle.std.specs.Prelude.{◌≡◌, ◌+◌, ◌≤◌, ◌<◌, ◌^◌};
 ghost use Rattle.ciborium_ll_grammar.specs.Title.{waiting_len};
 
-use ciborium_ll_grammar::hdr::table::{Affix, row_of};
+use ciborium_ll_grammar::hdr::table::{Affix, row_of, title_lens};
 use ciborium_ll_grammar::hdr::{Header, Minor, Title, shortest};
+use ciborium_ll_grammar::limits::LONGEST_TITLE;
 use ciborium_ll_grammar::spelling::Spelling;
-use ciborium_ll_grammar::titles::minor_in;
+use ciborium_ll_grammar::titles::{affixed_header, affixed_minor, open_title, small_header};
 use ciborium_ll_io::io::{Failures, Read};
 
 /// Why a decoder failed.
@@ -63,10 +64,11 @@ impl<R: Read> From<R> for Decoder<R> {
 }
 
 impl<R: Read> Decoder<R> {
+    ghost use Rattle.ciborium_ll_decoder.specs.declared.dec.Decoder.{Decoder as AnyDecoder};
     ghost use Rattle.std.specs.Prelude.{replicate, ℕ, ◌<◌, ◌^◌, ◌%◌, IsTrue, true, ◌↔◌, None, Some};
     ghost use Rattle.std.specs.Prelude.{Err, IfOk, MatchResult, IsErrOf, ◌/◌, ◌&&◌, if◌then◌else◌};
-    ghost use Rattle.std.specs.Prelude.{take, IfNone, IfSome};
-    ghost use Rattle.ciborium_ll_grammar.specs.Title.{title_len, IsTitle};
+    ghost use Rattle.std.specs.Prelude.{length, take, IfNone, IfSome, ◌∷◌};
+    ghost use Rattle.ciborium_ll_grammar.specs.Title.{affix_len, title_len, IsTitle};
     ghost use Rattle.ciborium_ll_grammar.specs.Parts.{IsParts, refused_when_strict, title_bytes};
     ghost use Rattle.ciborium_ll_grammar.specs.Spellings.{is_shortest};
     ghost use Rattle.ciborium_ll_grammar.specs.TitleRows.{IsAffix};
@@ -172,8 +174,59 @@ impl<R: Read> Decoder<R> {
             self.offset += header.title_len();
             return Ok(header);
         }
+        let start = self.offset;
+        if let Some(begun) = self.at_hand() {
+            return self.header_of(start, begun);
+        }
         let (header, _title) = self.title()?;
         Ok(header)
+    }
+
+    /// Returns the next byte and the eight bytes after it, if the reader has nine bytes at hand. Of these it reads the
+    /// title.
+    #[inline(always)]
+    fn at_hand(&mut self) -> Option<(u8, [u8; 8])>
+        requires none_waits { waiting_of self.old ≡ None }
+        ensures read { IfSome result (λ found.
+            ReadsAll R.Read self.old (found.0 ∷ take (affix_len (found.0 % 32)) found.1) self.new) }
+        ensures none { IfNone result (self.new ≡ self.old) }
+        ensures moves_on { MovesOn R.Read self.old self.new }
+    {
+        if self.offset > usize::MAX - LONGEST_TITLE {
+            return None;
+        }
+        let begun = self.reader.read_at_hand(title_lens())?;
+        self.offset += usize::from(title_lens()[usize::from(begun.0 % 32)]);
+        Some(begun)
+    }
+
+    /// Returns the header of the title that was read from the offset `start` on. Its bytes are at the beginning of the
+    /// nine.
+    #[inline(always)]
+    fn header_of(&self, start: usize, begun: (u8, [u8; 8])) -> Result<Header, Error<R::Error>>
+        ensures header { (old : AnyDecoder R) → offset_of old ≡ start
+            → ReadsAll R.Read old (begun.0 ∷ take (affix_len (begun.0 % 32)) begun.1) self.now
+            → DecoderPullAnswer R.Read old result self.now }
+        ensures covered { IfOk result (λ header.
+            title_len header ≤ length (begun.0 ∷ take (affix_len (begun.0 % 32)) begun.1)) }
+    {
+        let first = begun.0;
+        let affix = begun.1;
+        if first % 32 < 24 {
+            return Ok(small_header(first));
+        }
+        if first % 32 > 27 {
+            return match open_title(first) {
+                Some(header) => Ok(header),
+                None => Err(Error::Syntax(start)),
+            };
+        }
+        let (minor, number) = affixed_minor(first, affix);
+        if self.refuses(minor, first) {
+            Err(Error::Syntax(start))
+        } else {
+            Ok(affixed_header(first, minor, number))
+        }
     }
 
     /// Reads the next title, and returns the header that it means and its parts.
@@ -244,44 +297,8 @@ impl<R: Read> Decoder<R> {
 
     /// Reads the affix that a first byte announces. The answer is `None` for a reserved minor, and for a number that a
     /// strict decoder refuses there.
-    ///
-    /// If the reader has eight bytes at hand, no branch depends on the length of the affix.
     #[inline(always)]
     fn minor(&mut self, affix: Affix, first: u8) -> Result<Option<Minor>, Error<R::Error>>
-        requires affix { IsAffix affix (first % 32) }
-        requires none_waits { waiting_of self.old ≡ None }
-        ensures minor { ReadsMinor R.Read first self.old result self.new }
-        ensures moves_on { MovesOn R.Read self.old self.new }
-    {
-        if let Affix::Reserved = affix {
-            return Ok(None);
-        }
-        match self.at_hand(affix.len()) {
-            Some(bytes) => Ok(self.taken(minor_in(affix, first, bytes), first)),
-            None => self.read_minor(affix, first),
-        }
-    }
-
-    /// Returns the next eight bytes and reads `count` of them, if the reader has eight bytes at hand.
-    #[inline(always)]
-    fn at_hand(&mut self, count: usize) -> Option<[u8; 8]>
-        requires count { count ≤ 8 }
-        requires none_waits { waiting_of self.old ≡ None }
-        ensures bytes { IfSome result (λ bytes. ReadsAll R.Read self.old (take count bytes) self.new) }
-        ensures none { IfNone result (self.new ≡ self.old) }
-        ensures moves_on { MovesOn R.Read self.old self.new }
-    {
-        if count > usize::MAX - self.offset {
-            return None;
-        }
-        let bytes = self.reader.read_at_hand(count)?;
-        self.offset += count;
-        Some(bytes)
-    }
-
-    /// Reads the affix as [`Decoder::minor`] does, by one read for it alone.
-    #[inline(always)]
-    fn read_minor(&mut self, affix: Affix, first: u8) -> Result<Option<Minor>, Error<R::Error>>
         requires affix { IsAffix affix (first % 32) }
         requires none_waits { waiting_of self.old ≡ None }
         ensures minor { ReadsMinor R.Read first self.old result self.new }
@@ -363,11 +380,20 @@ impl<R: Read> Decoder<R> {
         ensures taken { result ≡ (if is_shortest (spelling_of self.now) && refused_when_strict (first / 32) minor
             then None else Some minor) }
     {
-        if self.spelling.is_shortest() && minor.is_refused_when_strict(first / 32) {
+        if self.refuses(minor, first) {
             None
         } else {
             Some(minor)
         }
+    }
+
+    /// Tells if the decoder is strict and refuses this minor after the first byte.
+    #[inline(always)]
+    fn refuses(&self, minor: Minor, first: u8) -> bool
+        ensures { result ≡ (is_shortest (spelling_of self.now) && refused_when_strict (first / 32) minor) }
+    {
+        let is_strict = self.spelling.is_shortest();
+        is_strict && minor.is_refused_when_strict(first / 32)
     }
 
     /// Reads an affix of `N` bytes. Each affix has its own array here, which is cleared only if the affix is read.

@@ -1,12 +1,10 @@
 -- Writes in two steps, in the terms of the contracts of the steps. From these lemmas the prover finds the clauses of a
 -- function that makes these calls, whatever the form of its body.
-use Rattle.std.proofs.Common.{◌≡◌, ℕ, ◌+◌, ◌<◌, ◌≤◌, max, List, [], ◌∷◌, ◌++◌, length, append-nil, sym, ◌∙◌, arith}
-use Rattle.std.proofs.Common.{Option, None, Some, Result, Ok, Err, IsErr, IfSome, OnOk}
-use Rattle.std.specs.Io.KnownBytes.{Appends}
+use Rattle.std.proofs.Common.{◌≡◌, ℕ, ◌<◌, ◌≤◌, max, List, [], ◌∷◌, ◌++◌, length, append-nil, sym, ◌∙◌, arith}
+use Rattle.std.proofs.Common.{Option, None, Some, Result, Ok, Err, IsErr, OnOk}
 use Rattle.std.specs.Option.{unwrap_or}
 use Rattle.std.specs.Str.{IsUtf8}
 use Rattle.ciborium_ll_io.specs.declared.io.Write.{Ghosts}
-use Rattle.ciborium_ll_io.specs.Transfer.{Shrinks, AppendsFront}
 use Rattle.ciborium_ll_grammar.specs.Title.{shortest_title}
 use Rattle.ciborium_ll_grammar.specs.Strings.{Kind, Text, kind_header, IsWritable}
 use Rattle.ciborium_ll_grammar.specs.Values.{least_limit, value_limit, ArePieces, in_one, in_pieces}
@@ -24,24 +22,6 @@ limit_is : (k : Kind) (segment : Option ℕ) (value : List ℕ)
 limit_is k segment value = grind arith
 
 module _ {W F : Type 0} (sink : Ghosts W F) where
-  -- A first byte was written, and then the bytes after it.
-  pub behind_byte : {T : Type 0} (old mid new : W) (result : Result T F) (first byte : ℕ) (affix : List ℕ)
-      → first ≡ byte → Appends (sink.written old) (sink.written mid) (first ∷ [])
-      → Shrinks (sink.room old) (sink.room mid) 1 → sink.failures mid ≡ sink.failures old
-      → WritesBytes sink mid result affix new → WritesBytes sink old result (byte ∷ affix) new
-  behind_byte old mid new result first byte affix same appended room failures next =
-      rw (sym same) (WritesBytes-then sink old mid new result (first ∷ []) affix
-      (record { appended = appended; room = room; failures = failures }) next)
-
-  -- A first byte was not written, and so nothing after it.
-  pub byte_unwritten : {T : Type 0} (old new : W) (result : Result T F) (first byte : ℕ) (affix : List ℕ) → IsErr result
-      → first ≡ byte → AppendsFront (sink.written old) (sink.written new) (sink.room old) (sink.room new) (first ∷ [])
-      → IfSome (sink.room old) (λ n. n < 1) → sink.failures new ≡ sink.failures old + 1
-      → WritesBytes sink old result (byte ∷ affix) new
-  byte_unwritten old new result first byte affix fails same front full failures =
-      rw (sym same) (WritesBytes-stopped sink old new result (first ∷ []) affix fails
-      (record { front = front; full = full; failures = failures }))
-
   -- A value was written as one string of a definite length.
   pub value_in_one : {T : Type 0} {old new : W} {result : Result T F} {kind : Kind} {segment : Option ℕ}
       {value body : List ℕ} {limit : ℕ} → limit ≡ max (least_limit kind) (unwrap_or segment (length value))

@@ -1,8 +1,8 @@
 //! The encoder.
 
 ghost use Rattle.std.specs.Prelude.{◌≡◌};
-ghost use Rattle.ciborium_ll_grammar.specs.Parts.{IsMinor, IsParts, minor_affix, title_bytes};
-ghost use Rattle.ciborium_ll_encoder.specs.Encoding.{EncoderPush, WritesBytes, WritesTitle, writer_of};
+ghost use Rattle.ciborium_ll_grammar.specs.Parts.{IsParts, title_bytes};
+ghost use Rattle.ciborium_ll_encoder.specs.Encoding.{EncoderPush, WritesTitle, writer_of};
 
 mod values;
 
@@ -78,22 +78,6 @@ impl<W: Write> Encoder<W> {
     {
         push_title(self, shortest(header))
     }
-
-    /// Writes the affix of a title.
-    #[inline(always)]
-    fn affix(&mut self, minor: Minor) -> Result<(), W::Error>
-        requires { IsMinor minor }
-        ensures affix { WritesBytes W.Write (writer_of self.old) result (minor_affix minor) (writer_of self.new) }
-        ensures target { W.target (writer_of self.new) ≡ W.target (writer_of self.old) }
-    {
-        match minor {
-            Minor::Small(_) | Minor::Open => self.writer.write_all(&[]),
-            Minor::One(n) => self.writer.write_all(&(n as u8).to_be_bytes()),
-            Minor::Two(n) => self.writer.write_all(&(n as u16).to_be_bytes()),
-            Minor::Four(n) => self.writer.write_all(&(n as u32).to_be_bytes()),
-            Minor::Eight(n) => self.writer.write_all(&n.to_be_bytes()),
-        }
-    }
 }
 
 /// Writes a title, as its first byte and its affix.
@@ -102,11 +86,17 @@ impl<W: Write> Encoder<W> {
 ///
 /// - `W::Error`: the writer failed, with a beginning of the title written.
 #[inline(always)]
-#[tactic(auto, using(crate::proofs::Writes::behind_byte, crate::proofs::Writes::byte_unwritten))]
 pub fn push_title<W: Write>(encoder: &mut Encoder<W>, title: Title) -> Result<(), W::Error>
     requires { IsParts title }
     ensures { WritesTitle W.Write (title_bytes title) (writer_of encoder.old) result (writer_of encoder.new) }
 {
-    encoder.writer.write_all(&[title.first_byte()])?;
-    encoder.affix(title.minor)
+    let first = title.first_byte();
+    let writer = &mut encoder.writer;
+    match title.minor {
+        Minor::Small(_) | Minor::Open => writer.write_pair(first, &[]),
+        Minor::One(n) => writer.write_pair(first, &(n as u8).to_be_bytes()),
+        Minor::Two(n) => writer.write_pair(first, &(n as u16).to_be_bytes()),
+        Minor::Four(n) => writer.write_pair(first, &(n as u32).to_be_bytes()),
+        Minor::Eight(n) => writer.write_pair(first, &n.to_be_bytes()),
+    }
 }

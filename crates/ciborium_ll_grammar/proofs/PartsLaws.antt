@@ -1,12 +1,12 @@
 -- The parts that the code reads as a title are a title.
-use Rattle.std.proofs.Common.{◌≡◌, ℕ, ◌<◌, ◌⊎◌, List, [], Option, Some, refl, arith}
+use Rattle.std.proofs.Common.{◌≡◌, ℕ, ◌+◌, ◌*◌, ◌/◌, ◌%◌, ◌<◌, ◌⊎◌, List, [], ◌∷◌, Option, Some, refl, arith}
 use Rattle.ciborium_ll_grammar.specs.declared.hdr.Header.{Header}
 use Rattle.ciborium_ll_grammar.specs.declared.hdr.Header.TheVariants as h
 use Rattle.ciborium_ll_grammar.specs.declared.hdr.Minor.{Minor}
 use Rattle.ciborium_ll_grammar.specs.declared.hdr.Minor.TheVariants as m
 use Rattle.ciborium_ll_grammar.specs.Title.{IsTitle, numbered, alone, Major, ByteString, TextString, Array, Map, Tag}
 use Rattle.ciborium_ll_grammar.specs.Title.{Other, major_code, Size, Small, One, Two, Four, Eight, numbered_header}
-use Rattle.ciborium_ll_grammar.specs.Title.{open_header, minor_of, affix_of, least_size, shortest_title}
+use Rattle.ciborium_ll_grammar.specs.Title.{NamesNoTitle, open_header, minor_of, affix_of, least_size, shortest_title}
 use Rattle.ciborium_ll_grammar.specs.Parts.{IsMinor, minor_number, minor_code, minor_affix, parts_bytes}
 use Rattle.ciborium_ll_grammar.specs.TitleRows.{NamesTitle}
 use Rattle.ciborium_ll_grammar.proofs.TitleLaws.{minor_below, one_title}
@@ -52,6 +52,25 @@ pub numbered_parts : (code : Major) (major : ℕ) (minor : Minor) (n : ℕ) (hea
     → minor_number minor ≡ Some n → NamesTitle (major_code code) major (minor_code minor)
     → ((size : Size) → numbered_header code size n ≡ header) → IsTitle (parts_bytes major minor) header
 numbered_parts code major minor n header p e named f = rw named.0 (means_title code minor header p (grind arith))
+
+-- A byte with a number below 24 in its lower five bits is a title.
+pub small_title : (code : Major) (first number : ℕ) (header : Header) → first % 32 < 24 → first / 32 ≡ major_code code
+    → number ≡ first % 32 → numbered_header code Small number ≡ header → IsTitle (first ∷ []) header
+small_title code first number header small major is means =
+    let byte : 32 * major_code code + number ≡ first = omega (arith, major, is) in
+    rw byte at (rw means at (numbered code Small number (rw is small)))
+
+-- A minor with a number and a major type are parts of a title.
+some_named : (minor : Minor) (major n : ℕ) → IsMinor minor → minor_number minor ≡ Some n
+    → NamesNoTitle major (minor_code minor) → ⊥
+some_named minor major n small is refused = grind arith
+
+-- A minor means the header of its number, if the major type gives each size the same header.
+pub affixed_parts : (code : Major) (major : ℕ) (minor : Minor) (n : ℕ) (header : Header) → IsMinor minor
+    → minor_number minor ≡ Some n → major ≡ major_code code → ((size : Size) → numbered_header code size n ≡ header)
+    → IsTitle (parts_bytes major minor) header
+affixed_parts code major minor n header p e is f =
+    numbered_parts code major minor n header p e (is, some_named minor major n p e) f
 
 -- The least size gives the shortest title under a major type below 7.
 shortens_alike : (major : Major) (minor least : Minor) (n : ℕ) (header : Header) → major_code major < 7

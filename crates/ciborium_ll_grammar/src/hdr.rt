@@ -10,7 +10,6 @@ ghost use Rattle.ciborium_ll_grammar.specs.Parts.{minor_number, refused_when_str
 ghost use Rattle.ciborium_ll_grammar.specs.Parts.{parts_first, title_bytes};
 ghost use Rattle.ciborium_ll_grammar.specs.Elements.{IsPlain};
 ghost use Rattle.ciborium_ll_grammar.specs.TitleRows.{IsTitleKind};
-ghost use Rattle.ciborium_ll_grammar.specs.declared.hdr.table.TitleKind.TheVariants as k;
 
 mod start;
 pub mod table;
@@ -249,10 +248,13 @@ impl Title {
             return open_header(kind);
         };
         Some(match kind {
-            TitleKind::Positive | TitleKind::Negative | TitleKind::Tag => number_header(kind, n),
-            TitleKind::Bytes | TitleKind::Text | TitleKind::Array | TitleKind::Map => {
-                length_header(kind, n as usize)
-            }
+            TitleKind::Positive => Header::Positive(n),
+            TitleKind::Negative => Header::Negative(n),
+            TitleKind::Bytes => Header::Bytes(Some(n as usize)),
+            TitleKind::Text => Header::Text(Some(n as usize)),
+            TitleKind::Array => Header::Array(Some(n as usize)),
+            TitleKind::Map => Header::Map(Some(n as usize)),
+            TitleKind::Tag => Header::Tag(n),
             TitleKind::Other => other_header(self.minor),
             // A refused first byte has no number, so no title takes this arm. It has the body of the arm above, so it
             // needs no test.
@@ -298,41 +300,9 @@ impl Title {
     }
 }
 
-/// Returns the header of an unsigned integer, a negative integer or a tag. They have the same shape, so a compiler
-/// looks the kind up without a branch.
-#[inline(always)]
-fn number_header(kind: TitleKind, n: u64) -> Header
-    ensures positive { kind ≡ k.Positive → result ≡ Header.Positive n }
-    ensures negative { kind ≡ k.Negative → result ≡ Header.Negative n }
-    ensures tag { kind ≡ k.Tag → result ≡ Header.Tag n }
-{
-    match kind {
-        TitleKind::Positive => Header::Positive(n),
-        TitleKind::Negative => Header::Negative(n),
-        _ => Header::Tag(n),
-    }
-}
-
-/// Returns the header of a string, an array or a map of this length. They have the same shape, so a compiler looks the
-/// kind up without a branch.
-#[inline(always)]
-fn length_header(kind: TitleKind, n: usize) -> Header
-    ensures bytes { kind ≡ k.Bytes → result ≡ Header.Bytes (Some n) }
-    ensures text { kind ≡ k.Text → result ≡ Header.Text (Some n) }
-    ensures array { kind ≡ k.Array → result ≡ Header.Array (Some n) }
-    ensures map { kind ≡ k.Map → result ≡ Header.Map (Some n) }
-{
-    match kind {
-        TitleKind::Bytes => Header::Bytes(Some(n)),
-        TitleKind::Text => Header::Text(Some(n)),
-        TitleKind::Array => Header::Array(Some(n)),
-        _ => Header::Map(Some(n)),
-    }
-}
-
 /// Returns the meaning of the minor 31 in a title of this kind, if it has one.
 #[inline(always)]
-fn open_header(kind: TitleKind) -> Option<Header>
+pub(crate) fn open_header(kind: TitleKind) -> Option<Header>
     ensures some { IfSome result (λ header. (major : ℕ) → IsTitleKind kind major 31
         → IsTitle ((32 * major + 31) ∷ []) header) }
     ensures none { IfNone result ((major : ℕ) → IsTitleKind kind major 31 → IsNeverOpen major) }
@@ -349,7 +319,7 @@ fn open_header(kind: TitleKind) -> Option<Header>
 
 /// Returns the header that a minor means under the major type 7.
 #[inline(always)]
-fn other_header(minor: Minor) -> Header
+pub(crate) fn other_header(minor: Minor) -> Header
     requires { IsMinor minor }
     ensures { IsTitle (parts_bytes 7 minor) result }
 {

@@ -1,16 +1,15 @@
 //! Titles whose bytes are all in memory, for checkers, copiers and views.
 
 ghost use Rattle.std.specs.Prelude.{◌≡◌, ◌+◌, ◌++◌, ◌%◌, ◌<◌, ◌≤◌, IfSome, IfNone, MatchOption, length, slice_index};
-ghost use Rattle.std.specs.Prelude.{true, false, take, ◌≢◌, ◌/◌, ◌^◌};
+ghost use Rattle.std.specs.Prelude.{true, false, take, ◌/◌, ◌^◌, ◌∷◌, [], Some};
 ghost use Rattle.std.specs.Int.{to_be_bytes, w16, w32, w64};
 ghost use Rattle.ciborium_ll_grammar.specs.Title.{BeginsRefused, HasFirstTitle, HasNoTitle, IsCutTitle, IsReserved};
-ghost use Rattle.ciborium_ll_grammar.specs.Title.{IsTitle, affix_len};
-ghost use Rattle.ciborium_ll_grammar.specs.Parts.{IsMinor, IsParts, minor_affix, minor_code, title_bytes};
+ghost use Rattle.ciborium_ll_grammar.specs.Title.{IsTitle, IsRefused, affix_len};
+ghost use Rattle.ciborium_ll_grammar.specs.Parts.{IsMinor, IsParts, minor_affix, minor_code, minor_number, parts_bytes, title_bytes};
 ghost use Rattle.ciborium_ll_grammar.specs.TitleRows.{IsAffix, IsTitleKind};
-ghost use Rattle.ciborium_ll_grammar.specs.declared.hdr.table.Affix.TheVariants as a;
 
 use crate::hdr::table::{Affix, TitleKind, row_of};
-use crate::hdr::{Header, Minor, Title};
+use crate::hdr::{Header, Minor, Title, open_header, other_header};
 
 /// Tells if the bytes are too few for their title.
 #[inline(always)]
@@ -44,43 +43,94 @@ fn minor_of(affix: Affix, first: u8, bytes: &[u8]) -> Option<Minor>
     }
 }
 
-/// How many of the 64 bits of eight bytes follow a number in front, for each variant of [`Affix`].
-const SHIFTS: [u32; 7] = [0, 56, 48, 32, 0, 0, 0];
+/// How many of the 64 bits of eight bytes follow the affix at their beginning, for each value of the lower five bits of
+/// a first byte (RFC 7049, 2.1).
+#[rattlefmt::skip]
+const SHIFTS: [u32; 32] = [
+    0, 0, 0, 0, 0, 0, 0, 0, 0, 0, 0, 0, 0, 0, 0, 0,
+    0, 0, 0, 0, 0, 0, 0, 0, 56, 48, 32, 0, 0, 0, 0, 0,
+];
 
-/// Returns the number of a first byte: its lower five bits, or the number in front of the eight bytes of `word`.
+/// Returns the number in the affix at the beginning of the eight bytes of `word`. A table has the affix's length.
 #[inline(always)]
-fn number_in(affix: Affix, first: u8, word: u64) -> u64
-    ensures within { affix ≡ a.Within → result ≡ first % 32 }
-    ensures one { affix ≡ a.One → result ≡ word / 2 ^ 56 }
-    ensures two { affix ≡ a.Two → result ≡ word / 2 ^ 48 }
-    ensures four { affix ≡ a.Four → result ≡ word / 2 ^ 32 }
-    ensures eight { affix ≡ a.Eight → result ≡ word }
+fn affix_number(first: u8, word: u64) -> u64
+    ensures one { first % 32 ≡ 24 → result ≡ word / 2 ^ 56 }
+    ensures two { first % 32 ≡ 25 → result ≡ word / 2 ^ 48 }
+    ensures four { first % 32 ≡ 26 → result ≡ word / 2 ^ 32 }
+    ensures eight { first % 32 ≡ 27 → result ≡ word }
 {
-    let in_front = word >> SHIFTS[affix as usize];
-    let within = u64::from(first % 32);
-    if affix.len() > 0 { in_front } else { within }
+    word >> SHIFTS[usize::from(first % 32)]
 }
 
-/// Returns the minor of a first byte, with the number in its lower five bits or in front of the eight bytes.
-///
-/// No branch depends on the affix, since tables have the place of its number.
+/// Returns the minor of a first byte from its affix, which is at the beginning of the eight bytes, and its number (RFC
+/// 7049, 2.1). No branch depends on the affix's length.
 #[inline(always)]
-pub fn minor_in(affix: Affix, first: u8, bytes: [u8; 8]) -> Minor
-    requires affix { IsAffix affix (first % 32) }
-    requires taken { affix ≢ a.Reserved }
-    ensures minor { IsMinor result }
-    ensures code { minor_code result ≡ first % 32 }
-    ensures affix { minor_affix result ≡ take (affix_len (first % 32)) bytes }
+pub fn affixed_minor(first: u8, bytes: [u8; 8]) -> (Minor, u64)
+    requires least { 24 ≤ first % 32 }
+    requires most { first % 32 ≤ 27 }
+    ensures minor { IsMinor result.0 }
+    ensures number { minor_number result.0 ≡ Some result.1 }
+    ensures bytes { parts_bytes (first / 32) result.0 ≡ first ∷ take (affix_len (first % 32)) bytes }
 {
-    let number = number_in(affix, first, u64::from_be_bytes(bytes));
-    match affix {
-        Affix::Within => Minor::Small(number),
-        Affix::One => Minor::One(number),
-        Affix::Two => Minor::Two(number),
-        Affix::Four => Minor::Four(number),
-        Affix::Eight => Minor::Eight(number),
-        Affix::Open | Affix::Reserved => Minor::Open,
+    let number = affix_number(first, u64::from_be_bytes(bytes));
+    let minor = match first % 32 {
+        24 => Minor::One(number),
+        25 => Minor::Two(number),
+        26 => Minor::Four(number),
+        _ => Minor::Eight(number),
+    };
+    (minor, number)
+}
+
+/// Returns the header of the title of this first byte, minor and number (RFC 7049, 2.1).
+#[inline(always)]
+pub fn affixed_header(first: u8, minor: Minor, number: u64) -> Header
+    requires minor { IsMinor minor }
+    requires number { minor_number minor ≡ Some number }
+    ensures { IsTitle (parts_bytes (first / 32) minor) result }
+{
+    match u32::from(first) / 32 {
+        0 => Header::Positive(number),
+        1 => Header::Negative(number),
+        2 => Header::Bytes(Some(number as usize)),
+        3 => Header::Text(Some(number as usize)),
+        4 => Header::Array(Some(number as usize)),
+        5 => Header::Map(Some(number as usize)),
+        6 => Header::Tag(number),
+        _ => other_header(minor),
     }
+}
+
+/// Returns the header of a title of one byte, whose number is in the lower five bits (RFC 7049, 2.1).
+#[inline(always)]
+pub fn small_header(first: u8) -> Header
+    requires { first % 32 < 24 }
+    ensures { IsTitle (first ∷ []) result }
+{
+    let number = first % 32;
+    match u32::from(first) / 32 {
+        0 => Header::Positive(u64::from(number)),
+        1 => Header::Negative(u64::from(number)),
+        2 => Header::Bytes(Some(usize::from(number))),
+        3 => Header::Text(Some(usize::from(number))),
+        4 => Header::Array(Some(usize::from(number))),
+        5 => Header::Map(Some(usize::from(number))),
+        6 => Header::Tag(u64::from(number)),
+        _ => Header::Simple(number),
+    }
+}
+
+/// Returns the header of a first byte whose minor is from 28 to 31, or `None` if no title begins so (RFC 7049, 2.1).
+pub fn open_title(first: u8) -> Option<Header>
+    requires { 27 < first % 32 }
+    ensures some { IfSome result (IsTitle (first ∷ [])) }
+    ensures open { IfSome result (λ header. first % 32 ≡ 31) }
+    ensures none { IfNone result (IsRefused first) }
+{
+    if first % 32 < 31 {
+        return None;
+    }
+    open_header(row_of(first).kind)
 }
 
 /// Returns the number of two bytes, the most significant byte first.

@@ -34,6 +34,13 @@ AppendsFront-after w w' w'' r r' r'' xs ys p s f = (
   ),
 )
 
+-- If `xs` were appended, and then a beginning of `ys` by a write that failed, a beginning of `xs ++ ys` was appended.
+pub front_after : {T F : Type 0} (w w' w'' : Option (List ℕ)) (r r' r'' : Option ℕ) (result : Result T F)
+    (xs ys : List ℕ) → Appends w w' xs → Shrinks r r' (length xs) → OnErr result (AppendsFront w' w'' r' r'' ys)
+    → OnErr result (AppendsFront w w'' r r'' (xs ++ ys))
+front_after w w' w'' r r' r'' (Ok done) xs ys p s f = tt
+front_after w w' w'' r r' r'' (Err fault) xs ys p s f = AppendsFront-after w w' w'' r r' r'' xs ys p s f
+
 -- A room that is too small for `xs` is too small for `xs ++ ys`.
 full_longer : (room : Option ℕ) (xs ys : List ℕ) → IfSome room (λ n. n < length xs)
     → IfSome room (λ n. n < length (xs ++ ys))

@@ -3,7 +3,7 @@
 //! A contract speaks of bytes only if a reader or a writer tells them, which costs nothing at run time.
 
 ghost use Rattle.std.specs.Prelude.{◌≡◌, ℕ, ◌+◌, ◌<◌, ◌≤◌, List, Bool, length, take, IsTrue, IsSome, IfSome, IfNone};
-ghost use Rattle.std.specs.Prelude.{OnOk, OnErr};
+ghost use Rattle.std.specs.Prelude.{OnOk, OnErr, slice_index, ◌%◌, ◌∷◌};
 ghost use Rattle.std.specs.declared.option.Option.{Option};
 ghost use Rattle.std.specs.Io.KnownBytes.{Appends, Consumes};
 ghost use Rattle.ciborium_ll_io.specs.Transfer.{Shrinks, AppendsFront, Target};
@@ -49,12 +49,14 @@ pub trait Read {
         ensures missing { OnErr result (IsTrue (steady self.old)
             → IfSome (ahead self.old) (λ bytes. length bytes < length «data».old)) };
 
-    /// Returns the next eight bytes and consumes `count` of them, if the reader has eight bytes at hand.
+    /// Returns the next byte and the eight bytes after it, if the reader has these nine bytes at hand.
     ///
-    /// `None` consumes nothing. By default a reader has no bytes at hand, and [`Read::read_exact`] gives them.
-    fn read_at_hand(&mut self, count: usize) -> Option<[u8; 8]>
-        requires { count ≤ 8 }
-        ensures bytes { IfSome result (λ bytes. Consumes (ahead self.old) (ahead self.new) (take count bytes)) }
+    /// It consumes as many of the nine as `lens` has for the lower five bits of the first: those of a title (RFC 7049,
+    /// 2.1). `None` consumes nothing. By default a reader has no bytes at hand, and [`Read::read_exact`] gives them.
+    fn read_at_hand(&mut self, lens: &[u8; 32]) -> Option<(u8, [u8; 8])>
+        requires { (minor : ℕ) → minor < 32 → slice_index lens.now minor ≤ 9 }
+        ensures bytes { IfSome result (λ found. Consumes (ahead self.old) (ahead self.new)
+            (take (slice_index lens.now (found.0 % 32)) (found.0 ∷ found.1))) }
         ensures failures { failures self.new ≡ failures self.old }
         ensures stays_steady { IsTrue (steady self.old) → IsTrue (steady self.new) }
         ensures none { IfNone result (self.new ≡ self.old) }
@@ -103,6 +105,28 @@ pub trait Write {
         ensures err { OnErr result (failures self.new ≡ failures self.old + 1) }
 
         ensures target { target self.new ≡ target self.old };
+
+    /// Appends a byte and then the whole of `rest`, as two calls of [`Write::write_all`] do. By default it makes them.
+    ///
+    /// # Errors
+    ///
+    /// - `Self::Error`: one of the two writes failed, with a beginning of the bytes appended.
+    #[inline(always)]
+    fn write_pair(&mut self, first: u8, rest: &[u8]) -> Result<(), Self::Error>
+        ensures bytes { OnOk result (Appends (written self.old) (written self.new) (first ∷ «rest».now)) }
+        ensures fills { OnOk result (Shrinks (room self.old) (room self.new) (1 + length «rest».now)) }
+        ensures ok { OnOk result (failures self.new ≡ failures self.old) }
+
+        ensures front { OnErr result (AppendsFront (written self.old) (written self.new)
+            (room self.old) (room self.new) (first ∷ «rest».now)) }
+        ensures full { OnErr result (IfSome (room self.old) (λ n. n < 1 + length «rest».now)) }
+        ensures err { OnErr result (failures self.new ≡ failures self.old + 1) }
+
+        ensures target { target self.new ≡ target self.old }
+    {
+        self.write_all(&[first])?;
+        self.write_all(rest)
+    }
 
     /// Passes on the bytes that the writer kept back.
     ///

@@ -5,6 +5,7 @@ ghost use Rattle.ciborium_ll.specs.Title.{title_len};
 use crate::checks::{Stop, holds, next_header, read_stop};
 use ciborium_ll::io::{Discard, Failures, Read, SliceReader, SliceWriter, Write};
 use ciborium_ll::{Bytes, Decoder, Encoder, Error, Header, Segments, Spelling, Text};
+use ciborium_ll_grammar::hdr::table::title_lens;
 use std::process::Abort;
 
 // Pulls the expected header.
@@ -89,6 +90,39 @@ fn a_reader_of_a_slice(rt: HostRuntime) {
     let is_refused = reads(&mut reader, &mut two).is_err();
     let is_right = is_refused && reader.left() == [3].as_slice();
     holds(&rt, is_right, "the third is left");
+}
+
+// A slice has a title of three bytes at hand if nine bytes are left, and none after it.
+#[test]
+fn a_title_at_hand(rt: HostRuntime) {
+    let mut reader = SliceReader::new(&[0x19, 1, 0, 3, 4, 5, 6, 7, 8]);
+    let found = reader.read_at_hand(title_lens());
+    let is_found = found == Some((0x19, [1, 0, 3, 4, 5, 6, 7, 8]));
+    holds(&rt, is_found, "nine bytes are found");
+    let is_right = reader.left() == [3, 4, 5, 6, 7, 8].as_slice();
+    holds(&rt, is_right, "three are consumed");
+    let is_none = reader.read_at_hand(title_lens()).is_none();
+    let is_right = is_none && reader.left().len() == 6;
+    holds(&rt, is_right, "six are too few");
+}
+
+// Writes a byte and the bytes after it.
+fn pairs<W: Write>(writer: &mut W, first: u8, rest: &[u8]) -> bool
+where
+    W::Error: Drop,
+{
+    writer.write_pair(first, rest).is_ok()
+}
+
+#[test]
+fn a_pair_to_a_slice(rt: HostRuntime) {
+    let mut space = [0; 4];
+    let mut writer = writer_into(&mut space, 3);
+    holds(&rt, pairs(&mut writer, 0x18, &[24]), "two bytes fit");
+    holds(&rt, !pairs(&mut writer, 0x19, &[1, 0]), "three do not fit");
+    let is_right = writer.room() == 0 && has_written(&writer, &[0x18, 24, 0x19]);
+    holds(&rt, is_right, "the first of them is written");
+    holds(&rt, !pairs(&mut writer, 0xf6, &[]), "no byte fits");
 }
 
 // Writes to a slice of three bytes, twice two.

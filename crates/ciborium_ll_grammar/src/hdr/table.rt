@@ -1,6 +1,6 @@
 //! A table of first bytes (RFC 7049, 2.1 to 2.3).
 
-ghost use Rattle.std.specs.Prelude.{ℕ, ◌≡◌};
+ghost use Rattle.std.specs.Prelude.{ℕ, ◌≡◌, ◌+◌, ◌<◌, slice_index};
 ghost use Rattle.ciborium_ll_grammar.specs.Title.{affix_len};
 ghost use Rattle.ciborium_ll_grammar.specs.TitleRows.{IsAffix, IsRow};
 
@@ -48,6 +48,21 @@ pub enum Affix {
 
 /// The number of bytes of the affix for each variant of [`Affix`]. A look-up takes no branch.
 const AFFIX_LENS: [usize; 7] = [0, 1, 2, 4, 8, 0, 0];
+
+/// The length of a title, in bytes, for each value of the lower five bits of its first byte (RFC 7049, 2.1).
+#[rattlefmt::skip]
+static LENS: [u8; 32] = [
+    1, 1, 1, 1, 1, 1, 1, 1, 1, 1, 1, 1, 1, 1, 1, 1,
+    1, 1, 1, 1, 1, 1, 1, 1, 2, 3, 5, 9, 1, 1, 1, 1,
+];
+
+/// Returns the length of a title, in bytes, for each value of the lower five bits of its first byte (RFC 7049, 2.1).
+#[inline(always)]
+pub fn title_lens() -> &'static [u8; 32]
+    ensures { (minor : ℕ) → minor < 32 → slice_index result.now minor ≡ 1 + affix_len minor }
+{
+    &LENS
+}
 
 impl Affix {
     /// Returns the affix's length, in bytes.

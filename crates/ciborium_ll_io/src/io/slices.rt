@@ -1,6 +1,6 @@
 //! A reader and a writer over slices.
 
-ghost use Rattle.std.specs.Prelude.{true, ◌≡◌, ◌≤◌, ◌++◌, ℕ, List, [], IfSome, Some, drop, length, refl};
+ghost use Rattle.std.specs.Prelude.{true, ◌≡◌, ◌≤◌, ◌+◌, ◌++◌, ◌∷◌, ℕ, List, [], IfSome, Some, drop, length, refl};
 
 use super::failures::Failures;
 use super::taken::Taken;
@@ -71,10 +71,11 @@ impl<'a> Read for SliceReader<'a> {
     }
 
     #[inline(always)]
-    fn read_at_hand(&mut self, count: usize) -> Option<[u8; 8]> {
-        let bytes = *self.left.first_chunk::<8>()?;
-        self.left = &self.left[count..];
-        Some(bytes)
+    fn read_at_hand(&mut self, lens: &[u8; 32]) -> Option<(u8, [u8; 8])> {
+        let (&first, rest) = self.left.first_chunk::<9>()?.split_first()?;
+        let affix = *rest.first_chunk::<8>()?;
+        self.left = &self.left[usize::from(lens[usize::from(first % 32)])..];
+        Some((first, affix))
     }
 }
 
@@ -121,6 +122,18 @@ fn copy_array<const N: usize>(to: &mut [u8], from: &[u8])
         && let Some(source) = from.as_array::<N>()
     {
         *target = *source;
+    }
+}
+
+/// Copies a byte, and then all bytes of `rest`.
+#[inline(always)]
+fn copy_pair(to: &mut [u8], first: u8, rest: &[u8])
+    requires len { length to.old ≡ 1 + length rest.now }
+    ensures copied { to.new ≡ first ∷ rest.now }
+{
+    if let Some((front, behind)) = to.split_first_mut() {
+        *front = first;
+        copy(behind, rest);
     }
 }
 
@@ -222,6 +235,20 @@ impl<'a> Write for SliceWriter<'a> {
         }
         let end = self.filled + data.len();
         copy_chunk(&mut self.buffer[self.filled..end], data);
+        self.filled = end;
+        Ok(())
+    }
+
+    #[inline(always)]
+    fn write_pair(&mut self, first: u8, rest: &[u8]) -> Result<(), OutOfSpace> {
+        if self.room() <= rest.len() {
+            // The first write may fit. The second does not.
+            self.write_all(&[first])?;
+            self.failures.raise();
+            return Err(OutOfSpace);
+        }
+        let end = self.filled + 1 + rest.len();
+        copy_pair(&mut self.buffer[self.filled..end], first, rest);
         self.filled = end;
         Ok(())
     }

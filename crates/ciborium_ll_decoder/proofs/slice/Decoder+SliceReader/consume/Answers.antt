@@ -1,4 +1,4 @@
-use Rattle.std.proofs.Common.{arith, length, length-take-le, refl, take}
+use Rattle.std.proofs.Common.{arith, length-take-le, refl, take}
 use Rattle.ciborium_ll_decoder.proofs.DecodingLaws.{ReadsPast-given, consumes_front}
 use Rattle.ciborium_ll_decoder.proofs.slice.Decoder+SliceReader.consume.Goals as goal
 

@@ -1,4 +1,4 @@
-use Rattle.std.proofs.Common.{◌≡◌, ℕ, ◌+◌, ◌*◌, [], ◌∷◌, Option, Some, None, refl, sym, ◌∙◌, arith, inl, inr}
+use Rattle.std.proofs.Common.{◌≡◌, ℕ, ◌+◌, ◌*◌, [], ◌∷◌, Option, Some, None, refl, sym, ◌∙◌, arith}
 use Rattle.std.specs.Prelude.{IfSome, IfNone}
 use Rattle.ciborium_ll_grammar.specs.declared.hdr.Header.{Header}
 use Rattle.ciborium_ll_grammar.specs.declared.hdr.Minor.{Minor}
@@ -11,12 +11,12 @@ use Rattle.ciborium_ll_grammar.specs.TitleRows.{IsTitleKind}
 use Rattle.ciborium_ll_grammar.proofs.PartsLaws.{numbered_parts}
 use Rattle.ciborium_ll_grammar.proofs.hdr.Title.header.Goals as goal
 
--- If a minor has a number, some title has this major type and minor.
+-- a minor that was read is no reserved one, and where it has a number, some title has it
 never_refused : (major : ℕ) (minor : Minor) (n : ℕ) → IsMinor minor → minor_number minor ≡ Some n
     → NamesNoTitle major (minor_code minor) → ⊥
 never_refused major minor n small some refused = grind arith
 
--- A minor with no number is `Open`.
+-- a minor with no number is 31
 open_minor : (minor : Minor) → minor_number minor ≡ None → minor ≡ m.Open
 open_minor minor e = grind arith
 
@@ -46,28 +46,32 @@ returns-in_default-clause-none c =
     (sym c.number.ensures ∙ c.in_default.is) c.requires.kind c.open_header.ensures.none
 
 pub returns-in-Positive-clause-some : goal.returns-in-Positive-clause-some
-returns-in-Positive-clause-some c =
-    elim c.in-Positive.is [
-      | inl is ↦ numbered_parts Unsigned _ _ _ _ c.requires.parts.minor (sym c.number.ensures ∙ c.in-Some.is)
-          (rw is at c.requires.kind) (λ s. sym (c.number_header.ensures.positive is))
-      | inr (inl is) ↦ numbered_parts Negative _ _ _ _ c.requires.parts.minor (sym c.number.ensures ∙ c.in-Some.is)
-          (rw is at c.requires.kind) (λ s. sym (c.number_header.ensures.negative is))
-      | inr (inr is) ↦ numbered_parts Tag _ _ _ _ c.requires.parts.minor (sym c.number.ensures ∙ c.in-Some.is)
-          (rw is at c.requires.kind) (λ s. sym (c.number_header.ensures.tag is))
-    ]
+returns-in-Positive-clause-some c = numbered_parts Unsigned _ _ _ _ c.requires.parts.minor
+    (sym c.number.ensures ∙ c.in-Some.is) (rw c.in-Positive.is at c.requires.kind) (λ s. refl)
+
+pub returns-in-Negative-clause-some : goal.returns-in-Negative-clause-some
+returns-in-Negative-clause-some c = numbered_parts Negative _ _ _ _ c.requires.parts.minor
+    (sym c.number.ensures ∙ c.in-Some.is) (rw c.in-Negative.is at c.requires.kind) (λ s. refl)
 
 pub returns-in-Bytes-clause-some : goal.returns-in-Bytes-clause-some
-returns-in-Bytes-clause-some c =
-    elim c.in-Bytes.is [
-      | inl is ↦ numbered_parts ByteString _ _ _ _ c.requires.parts.minor (sym c.number.ensures ∙ c.in-Some.is)
-          (rw is at c.requires.kind) (λ s. sym (c.length_header.ensures.bytes is))
-      | inr (inl is) ↦ numbered_parts TextString _ _ _ _ c.requires.parts.minor (sym c.number.ensures ∙ c.in-Some.is)
-          (rw is at c.requires.kind) (λ s. sym (c.length_header.ensures.text is))
-      | inr (inr (inl is)) ↦ numbered_parts Array _ _ _ _ c.requires.parts.minor (sym c.number.ensures ∙ c.in-Some.is)
-          (rw is at c.requires.kind) (λ s. sym (c.length_header.ensures.array is))
-      | inr (inr (inr is)) ↦ numbered_parts Map _ _ _ _ c.requires.parts.minor (sym c.number.ensures ∙ c.in-Some.is)
-          (rw is at c.requires.kind) (λ s. sym (c.length_header.ensures.map is))
-    ]
+returns-in-Bytes-clause-some c = numbered_parts ByteString _ _ _ _ c.requires.parts.minor
+    (sym c.number.ensures ∙ c.in-Some.is) (rw c.in-Bytes.is at c.requires.kind) (λ s. refl)
+
+pub returns-in-Text-clause-some : goal.returns-in-Text-clause-some
+returns-in-Text-clause-some c = numbered_parts TextString _ _ _ _ c.requires.parts.minor
+    (sym c.number.ensures ∙ c.in-Some.is) (rw c.in-Text.is at c.requires.kind) (λ s. refl)
+
+pub returns-in-Array-clause-some : goal.returns-in-Array-clause-some
+returns-in-Array-clause-some c = numbered_parts Array _ _ _ _ c.requires.parts.minor
+    (sym c.number.ensures ∙ c.in-Some.is) (rw c.in-Array.is at c.requires.kind) (λ s. refl)
+
+pub returns-in-Map-clause-some : goal.returns-in-Map-clause-some
+returns-in-Map-clause-some c = numbered_parts Map _ _ _ _ c.requires.parts.minor
+    (sym c.number.ensures ∙ c.in-Some.is) (rw c.in-Map.is at c.requires.kind) (λ s. refl)
+
+pub returns-in-Tag-clause-some : goal.returns-in-Tag-clause-some
+returns-in-Tag-clause-some c = numbered_parts Tag _ _ _ _ c.requires.parts.minor
+    (sym c.number.ensures ∙ c.in-Some.is) (rw c.in-Tag.is at c.requires.kind) (λ s. refl)
 
 pub returns-in-Other-clause-some : goal.returns-in-Other-clause-some
 returns-in-Other-clause-some c = rw (rw c.in-Other.is at c.requires.kind).0 c.other_header.ensures
