@@ -61,7 +61,7 @@ small_title code first number header small major is means =
     rw byte at (rw means at (numbered code Small number (rw is small)))
 
 -- A minor with a number and a major type are parts of a title.
-some_named : (minor : Minor) (major n : ℕ) → IsMinor minor → minor_number minor ≡ Some n
+pub some_named : (minor : Minor) (major n : ℕ) → IsMinor minor → minor_number minor ≡ Some n
     → NamesNoTitle major (minor_code minor) → ⊥
 some_named minor major n small is refused = grind arith
 

@@ -4,19 +4,14 @@ use Rattle.ciborium_ll_grammar.specs.declared.hdr.Header.{Header}
 use Rattle.ciborium_ll_grammar.specs.declared.hdr.Minor.{Minor}
 use Rattle.ciborium_ll_grammar.specs.declared.hdr.Minor.TheVariants as m
 use Rattle.ciborium_ll_grammar.specs.declared.hdr.table.TitleKind.{TitleKind}
-use Rattle.ciborium_ll_grammar.specs.Title.{IsTitle, IsNeverOpen, NamesNoTitle, Unsigned, Negative, ByteString}
+use Rattle.ciborium_ll_grammar.specs.Title.{IsTitle, IsNeverOpen, Unsigned, Negative, ByteString}
 use Rattle.ciborium_ll_grammar.specs.Title.{TextString, Array, Map, Tag}
-use Rattle.ciborium_ll_grammar.specs.Parts.{IsMinor, minor_code, minor_number, parts_bytes}
+use Rattle.ciborium_ll_grammar.specs.Parts.{minor_code, minor_number, parts_bytes}
 use Rattle.ciborium_ll_grammar.specs.TitleRows.{IsTitleKind}
-use Rattle.ciborium_ll_grammar.proofs.PartsLaws.{numbered_parts}
+use Rattle.ciborium_ll_grammar.proofs.PartsLaws.{numbered_parts, some_named}
 use Rattle.ciborium_ll_grammar.proofs.hdr.Title.header.Goals as goal
 
--- a minor that was read is no reserved one, and where it has a number, some title has it
-never_refused : (major : ℕ) (minor : Minor) (n : ℕ) → IsMinor minor → minor_number minor ≡ Some n
-    → NamesNoTitle major (minor_code minor) → ⊥
-never_refused major minor n small some refused = grind arith
-
--- a minor with no number is 31
+-- A minor with no number is `Open`.
 open_minor : (minor : Minor) → minor_number minor ≡ None → minor ≡ m.Open
 open_minor minor e = grind arith
 
@@ -78,5 +73,5 @@ returns-in-Other-clause-some c = rw (rw c.in-Other.is at c.requires.kind).0 c.ot
 
 pub returns-in-Refused-clause-some : goal.returns-in-Refused-clause-some
 returns-in-Refused-clause-some c =
-    absurd (never_refused c.args.self.major c.args.self.minor c.in-Some.n c.requires.parts.minor
+    absurd (some_named c.args.self.minor c.args.self.major c.in-Some.n c.requires.parts.minor
     (sym c.number.ensures ∙ c.in-Some.is) (rw c.in-Refused.is at c.requires.kind))
