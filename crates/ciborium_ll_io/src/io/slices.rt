@@ -49,6 +49,9 @@ impl<'a> SliceReader<'a> {
 }
 
 impl<'a> Read for SliceReader<'a> {
+    ghost use Rattle.std.specs.Prelude.{◌<◌, ◌%◌, IfNone, slice_index, take};
+    ghost use Rattle.std.specs.Io.KnownBytes.{Consumes};
+
     type Error = EndOfFile;
 
     ghost ahead = { λ r. Some r.left.now };
@@ -70,8 +73,20 @@ impl<'a> Read for SliceReader<'a> {
         Ok(())
     }
 
+    /// Returns the next byte and the eight bytes after it, exactly if at least nine bytes are left.
     #[inline(always)]
-    fn read_at_hand(&mut self, lens: &[u8; 32]) -> Option<(u8, [u8; 8])> {
+    fn read_at_hand(&mut self, lens: &[u8; 32]) -> Option<(u8, [u8; 8])>
+        // The trait's.
+        requires { (minor : ℕ) → minor < 32 → slice_index lens.now minor ≤ 9 }
+        ensures bytes { IfSome result (λ found. Consumes (Some self.old.left.now) (Some self.new.left.now)
+            (take (slice_index lens.now (found.0 % 32)) (found.0 ∷ found.1))) }
+        ensures failures { self.new.failures.count ≡ self.old.failures.count }
+        ensures none { IfNone result (self.new ≡ self.old) }
+
+        // The slice's own.
+        ensures few { IfNone result (length self.old.left.now < 9) }
+        ensures found { IfSome result (λ found. take 9 self.old.left.now ≡ found.0 ∷ found.1) }
+    {
         let (&first, rest) = self.left.first_chunk::<9>()?.split_first()?;
         let affix = *rest.first_chunk::<8>()?;
         self.left = &self.left[usize::from(lens[usize::from(first % 32)])..];
@@ -239,8 +254,30 @@ impl<'a> Write for SliceWriter<'a> {
         Ok(())
     }
 
+    /// Appends a byte and then the whole of `rest`.
+    ///
+    /// # Errors
+    ///
+    /// - `OutOfSpace`: these bytes are more than the room. Exactly the first byte is written, or nothing if there is no
+    ///   room.
     #[inline(always)]
-    fn write_pair(&mut self, first: u8, rest: &[u8]) -> Result<(), OutOfSpace> {
+    fn write_pair(&mut self, first: u8, rest: &[u8]) -> Result<(), OutOfSpace>
+        // The trait's.
+        ensures bytes { OnOk result (Appends (slice_written self.old) (slice_written self.new) (first ∷ «rest».now)) }
+        ensures fills { OnOk result (Shrinks (slice_room self.old) (slice_room self.new) (1 + length «rest».now)) }
+        ensures ok { OnOk result (slice_failures self.new ≡ slice_failures self.old) }
+        ensures front { OnErr result (AppendsFront (slice_written self.old) (slice_written self.new)
+            (slice_room self.old) (slice_room self.new) (first ∷ «rest».now)) }
+        ensures full { OnErr result (IfSome (slice_room self.old) (λ n. n < 1 + length «rest».now)) }
+        ensures err { OnErr result (slice_failures self.new ≡ slice_failures self.old + 1) }
+        ensures target { Some (slice_target self.new) ≡ Some (slice_target self.old) }
+
+        // The slice's own.
+        ensures nothing { OnErr result (slice_room self.old ≡ Some 0 → slice_written self.new ≡ slice_written self.old) }
+        ensures one { OnErr result (IfSome (slice_room self.old) (λ n. 0 < n)
+            → Appends (slice_written self.old) (slice_written self.new) (first ∷ [])) }
+        ensures same_reference { self.new.buffer.ghost_name ≡ self.old.buffer.ghost_name }
+    {
         if self.room() <= rest.len() {
             // The first write may fit. The second does not.
             self.write_all(&[first])?;
