@@ -65,6 +65,25 @@ fn copy_definite<R: Read, W: Write, P: Chunked>(
     copy_body::<R, Encoder<W>, P>(decoder, body, encoder, buffer)
 }
 
+/// Does what [`copy_definite`] does, for a body of several chunks. Their loop has its numbers in registers here.
+#[inline(never)]
+fn copy_long<R: Read, W: Write, P: Chunked>(
+    decoder: &mut Decoder<R>,
+    encoder: &mut Encoder<W>,
+    size: usize,
+    buffer: &mut [u8],
+) -> Result<(), RecodeError<R::Error, W::Error>>
+    requires room { LEAST_BUFFER ≤ length buffer.old }
+    requires none_waits { waiting_of decoder.old ≡ None }
+    requires covered { title_len (kind_header P.kind (Some size)) ≤ offset_of decoder.old }
+    ensures copied { CopiesBehind R.Read W.Write (kind_header P.kind (Some size)) (length buffer.old)
+        (sides_of decoder.old encoder.old) result (sides_of decoder.new encoder.new) }
+    ensures moves_on { MovesOn R.Read decoder.old decoder.new }
+    ensures target { W.target (writer_of encoder.new) ≡ W.target (writer_of encoder.old) }
+{
+    copy_definite::<R, W, P>(decoder, encoder, size, buffer)
+}
+
 /// Copies a string of indefinite length, after its open.
 fn copy_indefinite<R: Read, W: Write, P: Chunked>(
     decoder: &mut Decoder<R>,
@@ -121,6 +140,9 @@ fn copy_string<R: Read, W: Write, P: Chunked>(
     ensures target { W.target (writer_of encoder.new) ≡ W.target (writer_of encoder.old) }
 {
     match len {
+        Some(length) if length > buffer.len() => {
+            copy_long::<R, W, P>(decoder, encoder, length, buffer)
+        }
         Some(length) => copy_definite::<R, W, P>(decoder, encoder, length, buffer),
         None => copy_indefinite::<R, W, P>(decoder, encoder, buffer),
     }
