@@ -15,8 +15,8 @@ ghost use Rattle.capi.specs.Parsing.{PushesPiece, SaysAt, StopsPieces};
 
 use crate::answer::{CllAnswer, CllReport};
 use crate::header::CllHeader;
+use cbor_parser::few::Few;
 use cbor_parser::{Event, Parser, Pushed, Saved};
-use ciborium_ll_grammar::few::Few;
 use ciborium_ll_grammar::hdr::Header;
 use ciborium_ll_grammar::limits::MOST_KEPT;
 use ciborium_ll_grammar::spelling::Spelling;

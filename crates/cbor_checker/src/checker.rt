@@ -12,8 +12,8 @@ use crate::position::Position;
 use crate::progress::{End, Feed, Progress};
 use crate::snapshot::Snapshot;
 use crate::tell::answer;
+use cbor_parser::few::Few;
 use cbor_parser::strings::Within;
-use ciborium_ll_grammar::few::Few;
 use ciborium_ll_grammar::limits::MOST_LEVELS;
 use ciborium_ll_grammar::spelling::Spelling;
 

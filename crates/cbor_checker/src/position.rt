@@ -14,9 +14,9 @@ use crate::progress::Progress;
 use crate::snapshot::{Snapshot, is_state};
 use crate::tell::answer;
 use crate::walk::Walk;
+use cbor_parser::few::Few;
 use cbor_parser::spelling_of;
 use cbor_parser::strings::Within;
-use ciborium_ll_grammar::few::Few;
 use ciborium_ll_grammar::limits::MOST_LEVELS;
 use ciborium_ll_grammar::spelling::Spelling;
 

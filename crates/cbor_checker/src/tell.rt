@@ -7,7 +7,7 @@ ghost use Rattle.cbor_checker.specs.Telling.{progress_of, title_due};
 
 use crate::phase::Phase;
 use crate::progress::Progress;
-use ciborium_ll_grammar::few::Few;
+use cbor_parser::few::Few;
 use ciborium_ll_grammar::hdr::table::row_of;
 
 /// Returns how many bytes a title lacks at least, if these came.

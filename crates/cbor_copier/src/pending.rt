@@ -2,7 +2,7 @@
 
 ghost use Rattle.std.specs.Prelude.{◌≡◌, ◌≢◌, ◌≤◌, ◌⊎◌, ◌++◌, [], length, take, drop, true, false};
 
-use ciborium_ll_grammar::few::Few;
+use cbor_parser::few::Few;
 use std::marker::Model;
 
 /// The bytes that one byte of the input puts out, without those that were given.

@@ -3,8 +3,8 @@
 ghost use Rattle.std.specs.Prelude.{◌≡◌};
 ghost use Rattle.cbor_parser.specs.Events.{title_event};
 
+use crate::few::Few;
 use crate::strings::Within;
-use ciborium_ll_grammar::few::Few;
 use ciborium_ll_grammar::hdr::Header;
 use std::fmt;
 

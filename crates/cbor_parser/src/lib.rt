@@ -6,6 +6,7 @@
 
 pub mod begun;
 mod event;
+pub mod few;
 pub mod laws;
 mod parser;
 mod phase;

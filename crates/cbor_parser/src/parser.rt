@@ -8,11 +8,11 @@ ghost use Rattle.ciborium_ll_grammar.specs.declared.spelling.Spelling.{Spelling}
 ghost use Rattle.ciborium_ll_grammar.specs.declared.spelling.Spelling.TheVariants.{Any, Shortest};
 
 use crate::event::{Event, Pushed, title_event};
+use crate::few::Few;
 use crate::phase::Phase;
 use crate::saved::{Saved, is_state, spelling_of};
 use crate::strings::Within;
 use crate::title::{add, taken_header};
-use ciborium_ll_grammar::few::Few;
 use ciborium_ll_grammar::hdr::table::row_of;
 use ciborium_ll_grammar::limits::LONGEST_TITLE;
 use ciborium_ll_grammar::spelling::Spelling;

@@ -5,9 +5,9 @@ ghost use Rattle.ciborium_ll_text.specs.Text.{IsStuck};
 ghost use Rattle.cbor_parser.specs.Phases.{carried_of, has_left, most_front};
 ghost use Rattle.cbor_parser.specs.Saving.{IsState, phase_in, spelling_in};
 
+use crate::few::Few;
 use crate::phase::Phase;
 use crate::strings::Within;
-use ciborium_ll_grammar::few::Few;
 use ciborium_ll_grammar::hdr::table::row_of;
 use ciborium_ll_grammar::limits::{LONGEST_TITLE, MOST_KEPT};
 use ciborium_ll_grammar::spelling::Spelling;

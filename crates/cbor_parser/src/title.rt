@@ -6,7 +6,7 @@ ghost use Rattle.ciborium_ll_grammar.specs.Title.{IsTitle, affix_len};
 ghost use Rattle.cbor_parser.specs.Titles.{IsNoTakenTitle};
 ghost use Rattle.ciborium_ll_grammar.specs.declared.limits.TheConstants.{LONGEST_TITLE};
 
-use ciborium_ll_grammar::few::Few;
+use crate::few::Few;
 use ciborium_ll_grammar::hdr::Header;
 use ciborium_ll_grammar::spelling::Spelling;
 use ciborium_ll_grammar::titles::title_of;

@@ -5,7 +5,6 @@
 //! `ciborium_ll` exports the names that users need.
 #![tactic(auto)]
 
-pub mod few;
 pub mod hdr;
 pub mod limits;
 pub mod spelling;

@@ -5,8 +5,8 @@ ghost use Rattle.ciborium_ll_grammar.specs.Parts.{IsMinor, minor_affix};
 ghost use Rattle.ciborium_ll_grammar.specs.Title.{IsInRange, shortest_title};
 ghost use Rattle.ciborium_ll_grammar.specs.declared.limits.TheConstants.{LONGEST_TITLE};
 
-use crate::hdr::{Header, Minor, shortest};
-use crate::limits::LONGEST_TITLE;
+use ciborium_ll_grammar::hdr::{Header, Minor, shortest};
+use ciborium_ll_grammar::limits::LONGEST_TITLE;
 use std::marker::Model;
 
 /// At most nine bytes, which is the length of the longest title. A copy takes two moves.
