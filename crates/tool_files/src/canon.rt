@@ -89,7 +89,7 @@ pub fn canon_input<R: io::Read + Drop, W: io::Write>(
     let mut bytes = Vec::new(alloc);
     reader.read_to_end(&mut bytes).map_err(CanonFault::Input)?;
     let order = options.key_order();
-    let encodings = canonical_all(alloc, bytes.as_slice(), options.depth, order).map_err(
+    let encodings = canonicalize_items(alloc, bytes.as_slice(), options.depth, order).map_err(
         CanonFault::Unwritten,
     )?;
     send_all(writer, encodings.as_slice()).map_err(CanonFault::Output)
@@ -100,7 +100,7 @@ pub fn canon_input<R: io::Read + Drop, W: io::Write>(
 /// # Errors
 ///
 /// Those of `canonical` for the first item that it refuses, with the offset in all the bytes.
-pub fn canonical_all(
+pub fn canonicalize_items(
     alloc: Global,
     bytes: &[u8],
     depth: usize,

@@ -1,7 +1,7 @@
 use Rattle.std.proofs.Common.{◌≡◌, ◌-◌, ◌++◌, [], length, arith, refl, rules}
 use Rattle.tool_files.specs.Canon.{none}
 use Rattle.tool_files.proofs.CanonLaws.{rest_shorter, rewrites_more, unwritten_there}
-use Rattle.tool_files.proofs.canon.canonical_all.Goals as goal
+use Rattle.tool_files.proofs.canon.canonicalize_items.Goals as goal
 
 pub items-init : goal.items-init
 items-init c = record {

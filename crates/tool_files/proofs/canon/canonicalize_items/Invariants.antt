@@ -1,6 +1,6 @@
 use Rattle.std.proofs.Common.{◌≤◌, length}
 use Rattle.tool_files.proofs.CanonLaws.{Rewrites}
-use Rattle.tool_files.proofs.canon.canonical_all.Given as goal
+use Rattle.tool_files.proofs.canon.canonicalize_items.Given as goal
 
 -- The bytes begin with items whose encodings these are, and the rest follows.
 abbrev pub invariant-items : goal.invariant-items
