@@ -4,7 +4,7 @@
 //!
 //! No call takes memory, and each returns, also over a reader that never ends.
 //!
-//! [`BufferedReader`]: ciborium_ll_streams::BufferedReader
+//! [`BufferedReader`]: ciborium_ll_buffers::BufferedReader
 #![tactic(auto)]
 
 mod groups;

@@ -3,13 +3,13 @@
 ghost use Rattle.std.specs.Prelude.{◌≤◌};
 ghost use Rattle.std.specs.Io.KnownBytes.{Consumes};
 ghost use Rattle.ciborium_ll_grammar.specs.declared.limits.TheConstants.{MOST_LEVELS};
-ghost use Rattle.ciborium_ll_streams.specs.Buffers.{buffered_ahead, buffered_read_ahead, buffered_read_failures};
+ghost use Rattle.ciborium_ll_buffers.specs.Buffers.{buffered_ahead, buffered_read_ahead, buffered_read_failures};
 ghost use Rattle.cbor_skip.specs.Skipping.{ReadsCounted};
 
 use crate::groups::whole_items;
+use ciborium_ll_buffers::BufferedReader;
 use ciborium_ll_decoder::dec::Decoder;
 use ciborium_ll_io::io::Read;
-use ciborium_ll_streams::BufferedReader;
 use std::io;
 
 /// A length of a reader's buffer that serves well.

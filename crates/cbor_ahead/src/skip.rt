@@ -6,16 +6,16 @@ ghost use Rattle.ciborium_ll_grammar.specs.declared.limits.TheConstants.{LEAST_B
 ghost use Rattle.ciborium_ll_grammar.specs.Title.{title_len};
 ghost use Rattle.ciborium_ll_decoder.specs.declared.dec.Decoder.{Decoder as AnyDecoder};
 ghost use Rattle.ciborium_ll_decoder.specs.Decoding.{MovesOn, PullsTitle, offset_of, waiting_of};
-ghost use Rattle.ciborium_ll_streams.specs.declared.buffered.BufferedReader.{BufferedReader as AnyReader};
+ghost use Rattle.ciborium_ll_buffers.specs.declared.buffered.BufferedReader.{BufferedReader as AnyReader};
 ghost use Rattle.cbor_skip.specs.Due.{IsNest, item_count, may_close};
 ghost use Rattle.cbor_skip.specs.Skipping.{ReadsItem, SkipsCounted, SkipsItem, SkipsWithin, StopsItem};
 
 use crate::pass::pass_items;
 use cbor_skip::{SkipError, skip_after, skip_item};
+use ciborium_ll_buffers::{BufferedReader, FaultKept};
 use ciborium_ll_decoder::dec::Decoder;
 use ciborium_ll_grammar::hdr::Header;
 use ciborium_ll_io::io::Read;
-use ciborium_ll_streams::{BufferedReader, FaultKept};
 use std::io;
 
 /// In how many nests around an item [`skip_items`] looks for items that the buffer holds.

@@ -19,7 +19,7 @@ pub use Rattle.ciborium_ll_grammar.specs.Strings
 pub use Rattle.ciborium_ll_grammar.specs.Title
 pub use Rattle.ciborium_ll_grammar.specs.TitleRows
 pub use Rattle.ciborium_ll_grammar.specs.Values
-pub use Rattle.ciborium_ll_streams.specs.Buffers
+pub use Rattle.ciborium_ll_buffers.specs.Buffers
 pub use Rattle.ciborium_ll_streams.specs.FaultTexts
 pub use Rattle.ciborium_ll_io.specs.Discards
 pub use Rattle.ciborium_ll_io.specs.Slices

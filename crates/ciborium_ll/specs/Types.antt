@@ -13,10 +13,10 @@ pub use Rattle.ciborium_ll_grammar.specs.declared.hdr.Header
 pub use Rattle.ciborium_ll_grammar.specs.declared.spelling.Spelling
 pub use Rattle.ciborium_ll_io.specs.declared.io.Read
 pub use Rattle.ciborium_ll_io.specs.declared.io.Write
-pub use Rattle.ciborium_ll_streams.specs.declared.buffered.BufferedReader
-pub use Rattle.ciborium_ll_streams.specs.declared.buffered.BufferedWriter
-pub use Rattle.ciborium_ll_streams.specs.declared.keeping.KeepingReader
-pub use Rattle.ciborium_ll_streams.specs.declared.buffered.FaultKept
+pub use Rattle.ciborium_ll_buffers.specs.declared.buffered.BufferedReader
+pub use Rattle.ciborium_ll_buffers.specs.declared.buffered.BufferedWriter
+pub use Rattle.ciborium_ll_buffers.specs.declared.keeping.KeepingReader
+pub use Rattle.ciborium_ll_buffers.specs.declared.buffered.FaultKept
 pub use Rattle.ciborium_ll_io.specs.declared.io.discard.Discard
 pub use Rattle.ciborium_ll_io.specs.declared.io.slices.SliceReader
 pub use Rattle.ciborium_ll_io.specs.declared.io.slices.SliceWriter

@@ -1,9 +1,9 @@
 //! Readers and writers, and the facts that they tell: over slices, over those of std, and into memory that grows.
 
+pub use ciborium_ll_buffers::{BufferedReader, BufferedWriter, FaultKept, KeepingReader};
 pub use ciborium_ll_io::io::{
     Discard, EndOfFile, Failures, OutOfSpace, Read, SliceReader, SliceWriter, Write,
 };
 pub use ciborium_ll_streams::{
-    BufferedReader, BufferedWriter, FaultKept, KeepingReader, OutOfMemory, ReadFault, StdReader,
-    StdWriter, VecWriter, WriteFault,
+    OutOfMemory, ReadFault, StdReader, StdWriter, VecWriter, WriteFault,
 };

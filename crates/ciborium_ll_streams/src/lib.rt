@@ -4,14 +4,9 @@
 //! This crate is a part of `ciborium_ll`, whose module `io` exports it.
 #![tactic(auto)]
 
-mod buffered;
-mod keeping;
 pub mod memory;
 mod messages;
 mod streams;
-mod window;
 
-pub use self::buffered::{BufferedReader, BufferedWriter, FaultKept};
-pub use self::keeping::KeepingReader;
 pub use self::memory::{OutOfMemory, VecWriter};
-pub use self::streams::{ReadFault, StdReader, StdWriter, WriteFault};
+pub use self::streams::{ReadFault, StdReader, StdWriter, WriteFault, write_calls};

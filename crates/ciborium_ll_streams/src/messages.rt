@@ -1,20 +1,8 @@
 //! The messages of the errors of readers and writers over those of std.
 
-use crate::{FaultKept, ReadFault, WriteFault};
+use crate::{ReadFault, WriteFault};
 use std::error::Error;
 use std::fmt;
-
-impl fmt::Display for FaultKept {
-    ghost use Rattle.std.specs.Prelude.{Some, codes};
-
-    ghost output = { λ _. Some (codes "a call failed, and its fault is kept") };
-
-    fn fmt<W: fmt::Write>(&self, f: &mut fmt::Formatter<W>) -> fmt::Result {
-        f.write_str("a call failed, and its fault is kept")
-    }
-}
-
-impl Error for FaultKept {}
 
 impl fmt::Display for ReadFault {
     ghost use Rattle.ciborium_ll_streams.specs.FaultTexts.{read_fault_text};

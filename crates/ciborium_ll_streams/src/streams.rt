@@ -210,13 +210,14 @@ impl<T: io::Write> Write for StdWriter<T> {
     }
 }
 
-/// Writes bytes by as many calls of `write` as needed, and returns the number of bytes that the writer took.
+/// Writes bytes to a writer of std, by as many calls of `write` as needed. It returns the number of bytes that the writer
+/// took, and the outcome. Users call [`StdWriter::write_all`].
 ///
-/// The error is `Zero` if a call took no byte, and `Failed` if a call failed.
-pub(super) fn write_calls<W: io::Write>(
-    sink: &mut W,
-    bytes: &[u8],
-) -> (usize, Result<(), WriteFault>)
+/// # Errors
+///
+/// - `Zero`: a call took no byte.
+/// - `Failed`: a call failed.
+pub fn write_calls<W: io::Write>(sink: &mut W, bytes: &[u8]) -> (usize, Result<(), WriteFault>)
     ensures bytes { Appends (W.contents sink.old) (W.contents sink.new) (take result.0 bytes.now) }
     ensures ok { OnOk result.1 (result.0 ≡ length bytes.now) }
     ensures err { OnErr result.1 (result.0 < length bytes.now) }

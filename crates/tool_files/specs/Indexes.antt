@@ -5,7 +5,7 @@ use Rattle.ciborium_ll.specs.Types.BufferedReader.{BufferedReader}
 use Rattle.ciborium_ll.specs.Types.Decoder.{Decoder}
 use Rattle.ciborium_ll.specs.Types.Read.{Ghosts}
 use Rattle.ciborium_ll.specs.Types.ReadFault.{ReadFault}
-use Rattle.ciborium_ll_streams.specs.Buffers.{buffered_read_fault}
+use Rattle.ciborium_ll_buffers.specs.Buffers.{buffered_read_fault}
 use Rattle.tool_verdicts.specs.Checking.{unless_failed}
 use Rattle.tool_verdicts.specs.Parts.{IndexesPart}
 use Rattle.tool_verdicts.specs.declared.check.TheConstants.{BUFFER_SIZE}

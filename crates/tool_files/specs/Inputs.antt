@@ -6,7 +6,7 @@ use Rattle.ciborium_ll.specs.Types.Decoder.{Decoder}
 use Rattle.ciborium_ll.specs.Types.Read.{Ghosts}
 use Rattle.ciborium_ll.specs.Decoding.{IsFreshAs}
 use Rattle.ciborium_ll.specs.Items.{AreItems, IsItem}
-use Rattle.ciborium_ll_streams.specs.Buffers.{buffered_read_ahead, buffered_read_fault, buffered_source}
+use Rattle.ciborium_ll_buffers.specs.Buffers.{buffered_read_ahead, buffered_read_fault, buffered_source}
 use Rattle.tool_verdicts.specs.Checking.{unless_failed}
 use Rattle.tool_verdicts.specs.Parts.{IsAtMost, SaysPart}
 use Rattle.tool_verdicts.specs.declared.verdict.TextFault.{TextFault}

@@ -10,8 +10,8 @@ use Rattle.ciborium_ll.specs.Types.ReadFault.{ReadFault}
 use Rattle.ciborium_ll.specs.Types.Write.{Ghosts as Sink}
 use Rattle.ciborium_ll.specs.Decoding.{IsFreshAs}
 use Rattle.ciborium_ll.specs.Sides.{sides}
-use Rattle.ciborium_ll_streams.specs.Buffers.{buffered_read_fault, keeping_capacity, keeping_fault, keeping_held}
-use Rattle.ciborium_ll_streams.specs.Buffers.{keeping_source}
+use Rattle.ciborium_ll_buffers.specs.Buffers.{buffered_read_fault, keeping_capacity, keeping_fault, keeping_held}
+use Rattle.ciborium_ll_buffers.specs.Buffers.{keeping_source}
 use Rattle.cbor_skip.specs.declared.SkipError.{SkipError}
 use Rattle.cbor_skip.specs.Skipping.{StopsCounted}
 use Rattle.cbor_dump.specs.Checking.{ReadsAsCheck}

@@ -1,7 +1,7 @@
 -- The faults that the reader and the writer of a buffered copy keep, put back into the error of the copy.
 use Rattle.std.specs.Prelude.{◌≡◌, IfSome, Option, Result, Ok, Err}
 use Rattle.ciborium_ll_decoder.specs.declared.dec.Error.TheVariants as e
-use Rattle.ciborium_ll_streams.specs.declared.buffered.FaultKept.{FaultKept}
+use Rattle.ciborium_ll_buffers.specs.declared.buffered.FaultKept.{FaultKept}
 use Rattle.ciborium_ll_streams.specs.declared.streams.ReadFault.{ReadFault}
 use Rattle.ciborium_ll_streams.specs.declared.streams.WriteFault.{WriteFault}
 use Rattle.ciborium_ll_decoder.specs.declared.copy.RecodeError.{RecodeError}

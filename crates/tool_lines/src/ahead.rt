@@ -2,13 +2,14 @@
 
 ghost use Rattle.std.specs.Prelude.{◌≡◌, ◌≤◌, length};
 ghost use Rattle.std.proofs.Common.{rules};
-ghost use Rattle.ciborium_ll_streams.specs.Buffers.{buffered_ahead, buffered_read_capacity, buffered_read_failures};
-ghost use Rattle.ciborium_ll_streams.specs.Buffers.{buffered_steady};
+ghost use Rattle.ciborium_ll_buffers.specs.Buffers.{buffered_ahead, buffered_read_capacity, buffered_read_failures};
+ghost use Rattle.ciborium_ll_buffers.specs.Buffers.{buffered_steady};
 ghost use Rattle.tool_lines.specs.declared.raw.TheConstants.{ROOM};
 
 use crate::raw::ROOM;
+use ciborium_ll_buffers::{BufferedReader, FaultKept};
 use ciborium_ll_io::io::Read;
-use ciborium_ll_streams::{BufferedReader, FaultKept, ReadFault};
+use ciborium_ll_streams::ReadFault;
 use std::io;
 
 /// A buffered reader whose slice has at most `ROOM` bytes. The type keeps this bound, also after a call that says

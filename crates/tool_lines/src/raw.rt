@@ -6,11 +6,12 @@ ghost use Rattle.tool_lines.specs.Raw.{flushed_outcome};
 ghost use Rattle.tool_lines.specs.Restoring.{Restores, RestoresCopy, RestoresFlush};
 
 use crate::ahead::ReadAhead;
+use ciborium_ll_buffers::{BufferedWriter, FaultKept};
 use ciborium_ll_decoder::dec::{Decoder, Error};
 use ciborium_ll_encoder::enc::Encoder;
 use ciborium_ll_io::io::{Read, Write};
 use ciborium_ll_recode::recode::{RecodeError, recode};
-use ciborium_ll_streams::{BufferedWriter, FaultKept, ReadFault, StdReader, StdWriter, WriteFault};
+use ciborium_ll_streams::{ReadFault, StdReader, StdWriter, WriteFault};
 use std::io;
 
 /// How many bytes a buffered copy reads ahead, and how many it keeps back, at most.

@@ -1,8 +1,8 @@
 use Rattle.std.proofs.Common.{rules, take, ◌≡◌, List, None, ℕ, sym, subst}
 use Rattle.ciborium_ll_grammar.specs.Items.{AreItems}
 use Rattle.ciborium_ll_decoder.specs.Decoding.{ReadsPast, spelling_of}
-use Rattle.ciborium_ll_streams.specs.contracts.buffered.BufferedReaderRead.TheImpl.{ghosts}
-use Rattle.ciborium_ll_streams.specs.Buffers.{buffered_read_ahead}
+use Rattle.ciborium_ll_buffers.specs.contracts.buffered.BufferedReaderRead.TheImpl.{ghosts}
+use Rattle.ciborium_ll_buffers.specs.Buffers.{buffered_read_ahead}
 use Rattle.cbor_ahead.proofs.PassLaws.{front_taken, none_counted, none_waits, passes_items}
 use Rattle.cbor_ahead.proofs.pass.pass_items.Goals as goal
 

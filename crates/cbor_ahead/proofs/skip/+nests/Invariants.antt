@@ -1,6 +1,6 @@
 use Rattle.std.proofs.Common.{◌≡◌, ◌+◌, ◌-◌, ◌*◌, ◌%◌, ◌^◌, ℕ}
 use Rattle.cbor_skip.specs.Skipping.{ReadsCounted}
-use Rattle.ciborium_ll_streams.specs.contracts.buffered.BufferedReaderRead.TheImpl.{ghosts}
+use Rattle.ciborium_ll_buffers.specs.contracts.buffered.BufferedReaderRead.TheImpl.{ghosts}
 use Rattle.cbor_ahead.proofs.skip.+nests.Given as goal
 
 -- The contents of a nest are in one nest more.

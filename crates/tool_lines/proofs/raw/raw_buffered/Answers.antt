@@ -1,5 +1,5 @@
 use Rattle.std.proofs.Common.{◌≡◌, ◌≤◌, List, ℕ, Some, length, subst, sym, ap, ◌∙◌, arith}
-use Rattle.ciborium_ll_streams.specs.Buffers.{buffered_ahead, buffered_kept_back, buffered_read_ahead, buffered_written}
+use Rattle.ciborium_ll_buffers.specs.Buffers.{buffered_ahead, buffered_kept_back, buffered_read_ahead, buffered_written}
 use Rattle.tool_lines.specs.declared.ahead.ReadAhead.{ReadAhead}
 use Rattle.tool_lines.specs.Raw.{TellsBehind, TellsFlushed}
 use Rattle.tool_lines.proofs.RawLaws.{behind_known, flushed_known, handed_on, kept_known, raw_any}

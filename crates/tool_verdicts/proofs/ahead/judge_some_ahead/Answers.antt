@@ -2,7 +2,7 @@ use Rattle.std.proofs.Common.{◌≡◌, ◌+◌, ◌-◌, length, Some, Err, ar
 use Rattle.cbor_skip.specs.Skipping.{ReadsCounted, ReadsItem, SkipsItem, allowed_by}
 use Rattle.cbor_ahead.proofs.PassLaws.{more_counted, none_counted, one_counted}
 use Rattle.cbor_dump.proofs.ItemRows.{items_counted}
-use Rattle.ciborium_ll_streams.specs.contracts.buffered.BufferedReaderRead.TheImpl.{ghosts}
+use Rattle.ciborium_ll_buffers.specs.contracts.buffered.BufferedReaderRead.TheImpl.{ghosts}
 use Rattle.tool_verdicts.proofs.AheadLaws.{more_most, says_enough, says_stopped, test_fails, within_most}
 use Rattle.tool_verdicts.proofs.PartLaws.{below_by, least_of, up_to}
 use Rattle.tool_verdicts.proofs.ahead.judge_some_ahead.Goals as goal

@@ -1,6 +1,6 @@
 use Rattle.std.proofs.Common.{◌≡◌, ◌-◌, ◌^◌, length}
 use Rattle.cbor_skip.specs.Skipping.{ReadsCounted}
-use Rattle.ciborium_ll_streams.specs.contracts.buffered.BufferedReaderRead.TheImpl.{ghosts}
+use Rattle.ciborium_ll_buffers.specs.contracts.buffered.BufferedReaderRead.TheImpl.{ghosts}
 use Rattle.tool_verdicts.specs.Parts.{IsAtMost}
 use Rattle.tool_verdicts.proofs.ahead.judge_some_ahead.Given as goal
 

@@ -1,7 +1,7 @@
 use Rattle.std.proofs.Common.{◌-◌, length, rules, subst}
 use Rattle.std.specs.Io.KnownBytes.{Consumes}
 use Rattle.std.proofs.KnownBytes.{Consumes-trans}
-use Rattle.ciborium_ll_streams.proofs.BufferLaws.{filled_more}
+use Rattle.ciborium_ll_streams.proofs.FillLaws.{filled_more}
 use Rattle.ciborium_ll_streams.proofs.streams.StdReaderRead.read_exact.Goals as goal
 
 pub loop-filled-preserved : goal.loop-filled-preserved
