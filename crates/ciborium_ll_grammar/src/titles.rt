@@ -89,6 +89,10 @@ pub fn affixed_header(first: u8, minor: Minor, number: u64) -> Header
     requires number { minor_number minor ≡ Some number }
     ensures { IsTitle (parts_bytes (first / 32) minor) result }
 {
+    // A float has other fields than a number. Without it, a caller's match on the header joins the one below.
+    if first / 32 == 7 {
+        return other_header(minor);
+    }
     match u32::from(first) / 32 {
         0 => Header::Positive(number),
         1 => Header::Negative(number),
@@ -96,8 +100,7 @@ pub fn affixed_header(first: u8, minor: Minor, number: u64) -> Header
         3 => Header::Text(Some(number as usize)),
         4 => Header::Array(Some(number as usize)),
         5 => Header::Map(Some(number as usize)),
-        6 => Header::Tag(number),
-        _ => other_header(minor),
+        _ => Header::Tag(number),
     }
 }
 

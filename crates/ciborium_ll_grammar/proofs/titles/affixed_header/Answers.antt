@@ -27,11 +27,7 @@ pub returns-in-5 : goal.returns-in-5
 returns-in-5 c =
     affixed_parts Map _ _ _ _ c.requires.minor c.requires.number (rw c.from.ensures at c.in-5.is) (λ s. refl)
 
-pub returns-in-6 : goal.returns-in-6
-returns-in-6 c =
-    affixed_parts Tag _ _ _ _ c.requires.minor c.requires.number (rw c.from.ensures at c.in-6.is) (λ s. refl)
-
 pub returns-in_default : goal.returns-in_default
 returns-in_default c =
-    let other : c.args.first / 32 ≡ 7 = omega arith in
-    rw other c.other_header.ensures
+    let tag : c.args.first / 32 ≡ 6 = omega arith in
+    affixed_parts Tag _ _ _ _ c.requires.minor c.requires.number tag (λ s. refl)
