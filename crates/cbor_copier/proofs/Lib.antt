@@ -3,9 +3,11 @@ pub mod EnterLaws
 pub mod ExactLaws
 pub mod FrontLaws
 pub mod KeptLaws
+pub mod LeastLaws
 pub mod LiveLaws
 pub mod PendingLaws
 pub mod Reached
+pub mod PieceLaws
 pub mod PlainLaws
 pub mod ReadLaws
 pub mod RunLaws

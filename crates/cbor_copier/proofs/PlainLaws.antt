@@ -8,6 +8,8 @@ use Rattle.std.proofs.lemmas.Bool.{agree_below_at}
 use Rattle.std.proofs.lemmas.Bool.Decides.{nat_tests}
 use Rattle.std.proofs.lemmas.List.{length-take-le}
 use Rattle.std.proofs.Math.Seq.{take-add}
+use Rattle.std.specs.Array.{IsFirstChunk}
+use Rattle.std.proofs.Common.{get_or-drop}
 use Rattle.std.specs.Str.{IsAscii}
 use Rattle.ciborium_ll_grammar.specs.declared.spelling.Spelling.{Spelling}
 use Rattle.ciborium_ll_grammar.specs.declared.spelling.Spelling.TheVariants.{Any, Shortest}
@@ -23,7 +25,6 @@ use Rattle.ciborium_ll_grammar.specs.declared.hdr.Minor.TheVariants as m
 use Rattle.ciborium_ll_grammar.specs.Parts.{refused_when_strict}
 use Rattle.ciborium_ll_grammar.proofs.AffixLaws.{refused_affix, title_or_refused}
 use Rattle.ciborium_ll_grammar.proofs.TitleLaws.{minor_below}
-use Rattle.std.proofs.lemmas.List.{get_or-drop}
 use Rattle.ciborium_ll_grammar.specs.Title.{AreBytes}
 use Rattle.ciborium_ll_grammar.proofs.LongerLaws.{minor_as, taken}
 use Rattle.ciborium_ll_grammar.proofs.TightLaws.{tight_title}
@@ -40,7 +41,7 @@ use Rattle.cbor_parser.specs.declared.strings.StringKind.{StringKind}
 use Rattle.cbor_parser.specs.declared.strings.StringKind.TheVariants as k
 use Rattle.cbor_parser.specs.declared.strings.Within.TheVariants as w
 use Rattle.cbor_copier.specs.declared.plain.TheConstants.{LENS}
-use Rattle.cbor_copier.specs.Plain.{AreKept, IsKept, IsLen, bare, one, more}
+use Rattle.cbor_copier.specs.Plain.{AreKept, IsKept, IsLen, StaysShort, bare, one, more}
 use Rattle.cbor_copier.specs.Spots.{Spot, IsPutOut, at_phase, body_due, body_phase, element_done, elements_due, entered}
 use Rattle.cbor_copier.specs.Spots.{header_entered, putting}
 use Rattle.cbor_copier.specs.Steps.{IsFed, counted_by}
@@ -49,11 +50,15 @@ use Rattle.cbor_copier.proofs.StepLaws.{fed_allowed}
 
 -- ---- the table
 
+abbrev no_string : ℕ → Bool
+no_string first = not (eqb (first / 32) 2) && not (eqb (first / 32) 3)
+
 abbrev len_test : ℕ → ℕ → Bool
 len_test first len =
     (eqb len 0 && not (ltb (first % 32) 24))
-    || ((eqb len 1 && (ltb (first % 32) 24 && (not (eqb (first / 32) 2) && not (eqb (first / 32) 3))))
-    || (eqb len (1 + first % 32) && (ltb (first % 32) 24 && (eqb (first / 32) 2 || eqb (first / 32) 3))))
+    || ((eqb len 1 && (ltb (first % 32) 24 && no_string first))
+    || ((eqb len (1 + first % 32) && (ltb (first % 32) 24 && (eqb (first / 32) 2 || eqb (first / 32) 3)))
+    || (eqb len (1 + affix_len (first % 32)) && (not (ltb (first % 32) 24) && (ltb (first % 32) 28 && no_string first)))))
 
 len_tells : (first len : ℕ) → len_test first len ≡ true → IsLen first len
 len_tells first len e = grind (arith, nat_tests)
@@ -105,7 +110,7 @@ due_none : (allowed : Spelling) (left n place offset : ℕ) (phase : Phase)
 due_none allowed zero n place offset phase = refl
 due_none allowed (suc left) n place offset phase = refl
 
-first_below : (b : ℕ) (xs : List ℕ) → Below (b ∷ xs) → Below (b ∷ [])
+pub first_below : (b : ℕ) (xs : List ℕ) → Below (b ∷ xs) → Below (b ∷ [])
 first_below b xs below zero less = below zero (omega arith)
 first_below b xs below (suc i) less = absurd (omega (arith, less))
 
@@ -116,7 +121,7 @@ due_phase allowed zero n place offset phase = refl
 due_phase allowed (suc left) n place offset phase = refl
 
 -- A strict title is taken in both spellings.
-strictly_taken : (allowed : Spelling) (title : List ℕ) (header : Header) → IsStrictTitle title header
+pub strictly_taken : (allowed : Spelling) (title : List ℕ) (header : Header) → IsStrictTitle title header
     → IsTakenTitle allowed title header
 strictly_taken Any title header strict = tt
 strictly_taken Shortest title header strict = strict
@@ -138,7 +143,7 @@ kept_title title header below some is strict ends allowed count left place offse
     gone
 
 -- The header of a string of this length.
-abbrev string_of : StringKind → ℕ → Header
+abbrev pub string_of : StringKind → ℕ → Header
 string_of k.Bytes len = h.Bytes (Some len)
 string_of k.Text len = h.Text (Some len)
 
@@ -147,7 +152,7 @@ string_meant k.Bytes len small = small
 string_meant k.Text len small = small
 
 -- A title of one byte that begins a string is the only one that a strict copier takes.
-string_strict : (kind : StringKind) (len b : ℕ) → IsTitle (b ∷ []) (string_of kind len)
+pub string_strict : (kind : StringKind) (len b : ℕ) → IsTitle (b ∷ []) (string_of kind len)
     → IsStrictTitle (b ∷ []) (string_of kind len)
 string_strict k.Bytes len b q =
     record { shortest = tight_title (b ∷ []) _ q (shortest_some (h.Bytes (Some len))); meant = λ small. small }
@@ -225,7 +230,7 @@ kept_string kind b body below is whole =
     kept_titled kind (b ∷ []) body (first_below b body below) (below_rest b body below) (omega arith) is
     (string_strict kind (length body) b is) whole
 
--- ---- the element of a first byte, by the number in the table
+-- ---- titles that begin no string
 
 -- A major type that begins no string.
 record PlainMajor (code : ℕ) : Type 0 where
@@ -245,7 +250,7 @@ major_of (suc (suc (suc (suc (suc (suc (suc zero))))))) less two three =
     record { major = Other; is = refl; ends = λ n s. refl }
 major_of (suc (suc (suc (suc (suc (suc (suc (suc code)))))))) less two three = absurd (omega (arith, less))
 
-small_title : (b : ℕ) (major : Major) → major_code major ≡ b / 32 → b % 32 < 24
+pub small_title : (b : ℕ) (major : Major) → major_code major ≡ b / 32 → b % 32 < 24
     → IsTitle (b ∷ []) (numbered_header major Small (b % 32))
 small_title b major is small =
     let parts : 32 * major_code major + b % 32 ≡ b = omega (arith, is) in
@@ -256,32 +261,6 @@ small_strict : (b : ℕ) (major : Major) → major_code major ≡ b / 32 → b %
 small_strict b major is small =
     let parts : 32 * major_code major + b % 32 ≡ b = omega (arith, is) in
     rw parts at (taken major Small (b % 32) small refl)
-
--- Bytes of the length in the table are kept, if a text's body is text.
-pub kept_by : (xs : List ℕ) (len : ℕ) → Below xs → 0 < length xs → IsLen (slice_index xs 0) len → 0 < len
-    → len ≤ length xs → (slice_index xs 0 / 32 ≡ 3 → IsCharacters (take (len - 1) (drop 1 xs))) → IsKept (take len xs)
-kept_by [] len below some is least le text = absurd (omega (arith, some))
-kept_by (b ∷ xs) len below some (inl none) least le text = absurd (omega (arith, none.0, least))
-kept_by (b ∷ xs) len below some (inr (inl v)) least le text =
-    let m = major_of (b / 32) (omega (arith, below 0 (omega arith))) v.2 v.3 in
-    let title = small_title b m.major m.is v.1 in
-    let header = numbered_header m.major Small (b % 32) in
-    rw v.0 (kept_title (b ∷ []) header (first_below b xs below) (omega arith) title
-    (small_strict b m.major m.is v.1) (m.ends (b % 32)))
-kept_by (b ∷ xs) len below some (inr (inr v)) least le text =
-    let n = b % 32 in
-    let e : len ≡ suc n = omega (arith, v.0) in
-    let less : n ≤ length xs = omega (arith, e, le) in
-    let long : length (take n xs) ≡ n = length-take-le n xs less in
-    let within : Below (b ∷ take n xs) = below_take (suc n) (b ∷ xs) (omega (arith, less)) below in
-    elim v.2 [
-      | inl two ↦ rw e (kept_string k.Bytes b (take n xs) within (rw long (small_title b ByteString (sym two) v.1)) tt)
-      | inr three ↦ (
-          let body : len - 1 ≡ n = omega (arith, e) in
-          rw e (kept_string k.Text b (take n xs) within (rw long (small_title b TextString (sym three) v.1))
-          (rw body at (text three)))
-          )
-    ]
 
 -- ---- elements one after another
 
@@ -362,19 +341,11 @@ short_four k n b fits parts major least = grind (arith, nat_tests)
 short_eight : (k n b : ℕ) → n < 2 ^ 64 → 32 * k + 27 ≡ b → k < 8 → (b < 224 → 2 ^ 32 ≤ n) → refused_when_strict k (m.Eight n) ≡ false
 short_eight k n b fits parts major least = grind (arith, nat_tests)
 
--- The bytes after the first byte are those of a shortest title.
-abbrev Stays : ℕ → List ℕ → Type 0
-Stays b v =
-    (b % 32 ≡ 24 → (24 ≤ get_or v 0 0) × (224 ≤ b → 32 ≤ get_or v 0 0))
-    × (b % 32 ≡ 25 → b < 224 → 0 < get_or v 0 0)
-    × (b % 32 ≡ 26 → b < 224 → 0 < get_or v 0 0 + get_or v 1 0)
-    × (b % 32 ≡ 27 → b < 224 → 0 < get_or v 0 0 + get_or v 1 0 + get_or v 2 0 + get_or v 3 0)
-
 code_below : (k : Major) → major_code k < 8
 code_below k = grind arith
 
 short_by : (k : Major) (s : Size) (n b : ℕ) (v : List ℕ) → n < size_limit s → first_byte k (minor_of s n) ≡ b
-    → affix_of s n ≡ v → Stays b v → refused_when_strict (major_code k) (minor_as s n) ≡ false
+    → affix_of s n ≡ v → StaysShort b v → refused_when_strict (major_code k) (minor_as s n) ≡ false
 short_by k Small n b v fits head tail stays = refl
 short_by k One n b v fits head tail stays =
     let at : b % 32 ≡ 24 = omega (arith, head) in
@@ -413,7 +384,7 @@ ends_plain Other Four n two three spot = refl
 ends_plain Other Eight n two three spot = refl
 
 kept_wide : (t : List ℕ) (header : Header) (b : ℕ) (v : List ℕ) → IsTitle t header → t ≡ b ∷ v → Below t
-    → 24 ≤ b % 32 → b % 32 < 28 → b / 32 ≢ 2 → b / 32 ≢ 3 → Stays b v → IsKept t
+    → 24 ≤ b % 32 → b % 32 < 28 → b / 32 ≢ 2 → b / 32 ≢ 3 → StaysShort b v → IsKept t
 kept_wide t header b v (alone k x o) e below least most two three stays =
     let head : first_byte k 31 ≡ b = cc in
     absurd (omega (arith, head, most))
@@ -440,7 +411,7 @@ front_at b n (x ∷ xs) some first = rw first refl
 -- A title with an affix is kept, if the title begins no string and is the shortest of its header.
 kept_long : (xs : List ℕ) (n b : ℕ) → Below xs → suc n ≤ length xs → slice_index xs 0 ≡ b
     → n ≡ affix_len (b % 32) → 24 ≤ b % 32 → b % 32 < 28 → b / 32 ≢ 2 → b / 32 ≢ 3
-    → Stays b (take n (drop 1 xs)) → IsKept (take (suc n) xs)
+    → StaysShort b (take n (drop 1 xs)) → IsKept (take (suc n) xs)
 kept_long xs n b below le first long least most two three stays =
     let v = take n (drop 1 xs) in
     let front = front_at b n xs (omega (arith, le)) first in
@@ -454,56 +425,99 @@ kept_long xs n b below le first long least most two three stays =
       | inr titled ↦ kept_wide (b ∷ v) titled.0 b v titled.1 refl all least most two three stays
     ])
 
-taken_at : (xs : List ℕ) (n i : ℕ) → i < n → get_or (take n (drop 1 xs)) i 0 ≡ slice_index xs (1 + i)
-taken_at xs n i less = get_or-take n (drop 1 xs) i 0 less ∙ get_or-drop 1 xs i 0
+-- The same of the bytes of the affix alone.
+stays_taken : (b n : ℕ) (xs : List ℕ) → n ≡ affix_len (b % 32) → StaysShort b xs → StaysShort b (take n xs)
+stays_taken b n xs long stays =
+    let same : (i : ℕ) → i < n → slice_index (take n xs) i ≡ slice_index xs i = λ i less. get_or-take n xs i 0 less in (
+      λ at. let fits : 0 < n = rw (long, at) (omega arith) in rw (same 0 fits) (stays.0 at),
+      λ at. let fits : 0 < n = rw (long, at) (omega arith) in rw (same 0 fits) (stays.1 at),
+      λ at.
+          let fits : 1 < n = rw (long, at) (omega arith) in rw (same 0 (omega (arith, fits)), same 1 fits) (stays.2 at),
+      λ at.
+          let fits : 3 < n = rw (long, at) (omega arith) in
+          rw (same 0 (omega (arith, fits)), same 1 (omega (arith, fits)), same 2 (omega (arith, fits)), same 3 fits)
+          (stays.3 at),
+    )
 
-module _ (xs : List ℕ) (b : ℕ) (below : Below xs) (first : slice_index xs 0 ≡ b) (two : b / 32 ≢ 2)
-    (three : b / 32 ≢ 3) where
-  pub long_24 : 2 ≤ length xs → b % 32 ≡ 24 → 24 ≤ slice_index xs 1 → (224 ≤ b → 32 ≤ slice_index xs 1)
-      → IsKept (take 2 xs)
-  long_24 le at least simple =
-      let x = taken_at xs 1 0 (omega arith) in
-      kept_long xs 1 b below le first (rw at refl) (omega (arith, at)) (omega (arith, at)) two three (
-        λ e. (rw x least, λ high. rw x (simple high)),
-        λ e. absurd (omega (arith, e, at)),
-        λ e. absurd (omega (arith, e, at)),
-        λ e. absurd (omega (arith, e, at)),
-      )
+-- ---- the element of a first byte, by the number in the table
 
-  pub long_25 : 3 ≤ length xs → b % 32 ≡ 25 → (b < 224 → 0 < slice_index xs 1) → IsKept (take 3 xs)
-  long_25 le at some =
-      let x = taken_at xs 2 0 (omega arith) in
-      kept_long xs 2 b below le first (rw at refl) (omega (arith, at)) (omega (arith, at)) two three (
-        λ e. absurd (omega (arith, e, at)),
-        λ e low. rw x (some low),
-        λ e. absurd (omega (arith, e, at)),
-        λ e. absurd (omega (arith, e, at)),
-      )
+-- A first byte that holds its number has no longer title.
+pub small_stays : (b : ℕ) (v : List ℕ) → b % 32 < 24 → StaysShort b v
+small_stays b v small = (
+  λ at. absurd (omega (arith, at, small)),
+  λ at. absurd (omega (arith, at, small)),
+  λ at. absurd (omega (arith, at, small)),
+  λ at. absurd (omega (arith, at, small)),
+)
 
-  pub long_26 : 5 ≤ length xs → b % 32 ≡ 26 → (b < 224 → 0 < slice_index xs 1 + slice_index xs 2) → IsKept (take 5 xs)
-  long_26 le at some =
-      let x = taken_at xs 4 0 (omega arith) in
-      let y = taken_at xs 4 1 (omega arith) in
-      kept_long xs 4 b below le first (rw at refl) (omega (arith, at)) (omega (arith, at)) two three (
-        λ e. absurd (omega (arith, e, at)),
-        λ e. absurd (omega (arith, e, at)),
-        λ e low. rw (x, y) (some low),
-        λ e. absurd (omega (arith, e, at)),
-      )
+-- The number of a string in the table stands in its first byte.
+pub string_small : (b len : ℕ) → IsLen b len → 0 < len → (b / 32 ≡ 2) ⊎ (b / 32 ≡ 3) → b % 32 < 24
+string_small b len (inl none) some kind = absurd (omega (arith, none.0, some))
+string_small b len (inr (inl v)) some kind = v.1
+string_small b len (inr (inr (inl v))) some kind = v.1
+string_small b len (inr (inr (inr v))) some (inl two) = absurd (v.3 two)
+string_small b len (inr (inr (inr v))) some (inr three) = absurd (v.4 three)
 
-  pub long_27 : 9 ≤ length xs → b % 32 ≡ 27
-      → (b < 224 → 0 < slice_index xs 1 + slice_index xs 2 + slice_index xs 3 + slice_index xs 4) → IsKept (take 9 xs)
-  long_27 le at some =
-      let x = taken_at xs 8 0 (omega arith) in
-      let y = taken_at xs 8 1 (omega arith) in
-      let z = taken_at xs 8 2 (omega arith) in
-      let w = taken_at xs 8 3 (omega arith) in
-      kept_long xs 8 b below le first (rw at refl) (omega (arith, at)) (omega (arith, at)) two three (
-        λ e. absurd (omega (arith, e, at)),
-        λ e. absurd (omega (arith, e, at)),
-        λ e. absurd (omega (arith, e, at)),
-        λ e low. rw (x, y, z, w) (some low),
-      )
+-- A title in the table that begins no string has at most nine bytes.
+title_most : (b len : ℕ) → IsLen b len → b / 32 ≢ 2 → b / 32 ≢ 3 → len ≤ 9
+title_most b len (inl none) two three = omega (arith, none.0)
+title_most b len (inr (inl v)) two three = omega (arith, v.0)
+title_most b len (inr (inr (inl v))) two three = elim v.2 [
+  | inl is ↦ absurd (two is)
+  | inr is ↦ absurd (three is)
+]
+title_most b len (inr (inr (inr v))) two three = rw v.0 (grind (arith, nat_tests))
+
+-- Bytes of the length in the table are kept, if a text's body is text, and the title is the shortest.
+pub kept_by : (xs : List ℕ) (len : ℕ) → Below xs → 0 < length xs → IsLen (slice_index xs 0) len → 0 < len
+    → len ≤ length xs → (slice_index xs 0 / 32 ≡ 3 → IsCharacters (take (len - 1) (drop 1 xs)))
+    → StaysShort (slice_index xs 0) (drop 1 xs) → IsKept (take len xs)
+kept_by [] len below some is least le text stays = absurd (omega (arith, some))
+kept_by (b ∷ xs) len below some (inl none) least le text stays = absurd (omega (arith, none.0, least))
+kept_by (b ∷ xs) len below some (inr (inl v)) least le text stays =
+    let m = major_of (b / 32) (omega (arith, below 0 (omega arith))) v.2 v.3 in
+    let title = small_title b m.major m.is v.1 in
+    let header = numbered_header m.major Small (b % 32) in
+    rw v.0 (kept_title (b ∷ []) header (first_below b xs below) (omega arith) title
+    (small_strict b m.major m.is v.1) (m.ends (b % 32)))
+kept_by (b ∷ xs) len below some (inr (inr (inl v))) least le text stays =
+    let n = b % 32 in
+    let e : len ≡ suc n = omega (arith, v.0) in
+    let less : n ≤ length xs = omega (arith, e, le) in
+    let long : length (take n xs) ≡ n = length-take-le n xs less in
+    let within : Below (b ∷ take n xs) = below_take (suc n) (b ∷ xs) (omega (arith, less)) below in
+    elim v.2 [
+      | inl two ↦ rw e (kept_string k.Bytes b (take n xs) within (rw long (small_title b ByteString (sym two) v.1)) tt)
+      | inr three ↦ (
+          let body : len - 1 ≡ n = omega (arith, e) in
+          rw e (kept_string k.Text b (take n xs) within (rw long (small_title b TextString (sym three) v.1))
+          (rw body at (text three)))
+          )
+    ]
+kept_by (b ∷ xs) len below some (inr (inr (inr v))) least le text stays =
+    let n = affix_len (b % 32) in
+    let e : len ≡ suc n = omega (arith, v.0) in
+    rw e (kept_long (b ∷ xs) n b below (omega (arith, v.0, le)) refl refl v.1 v.2 v.3 v.4 (stays_taken b n xs refl stays))
+
+-- A title in the table that begins no string and is the shortest is kept.
+pub title_kept : (xs : List ℕ) (len : ℕ) → Below xs → 0 < length xs → IsLen (slice_index xs 0) len → 0 < len
+    → len ≤ length xs → slice_index xs 0 / 32 ≢ 3 → StaysShort (slice_index xs 0) (drop 1 xs) → IsKept (take len xs)
+title_kept xs len below some is least le three stays =
+    kept_by xs len below some is least le (λ text. absurd (three text)) stays
+
+-- The same, by the first nine bytes.
+pub front_kept : (xs front : List ℕ) (len : ℕ) → Below xs → IsFirstChunk xs front 9 → IsLen (slice_index xs 0) len
+    → 0 < len → slice_index xs 0 / 32 ≢ 2 → slice_index xs 0 / 32 ≢ 3
+    → StaysShort (slice_index front 0) (drop 1 front) → IsKept (take len xs)
+front_kept xs front len below chunk is least two three stays =
+    let same : (i : ℕ) → i < 9 → slice_index front i ≡ slice_index xs i =
+    λ i less. rw chunk.same (get_or-take 9 xs i 0 less) in
+    let after : (i : ℕ) → i < 8 → slice_index (drop 1 front) i ≡ slice_index (drop 1 xs) i =
+    λ i less. get_or-drop 1 front i 0 ∙ (same (1 + i) (omega (arith, less)) ∙ sym (get_or-drop 1 xs i 0)) in
+    title_kept xs len below (omega (arith, chunk.enough)) is least
+    (omega (arith, chunk.enough, title_most (slice_index xs 0) len is two three)) three
+    (rw (same 0 (omega arith), after 0 (omega arith), after 1 (omega arith), after 2 (omega arith), after 3 (omega arith))
+    at stays)
 
 -- ---- strings of 24 to 255 bytes
 

@@ -9,6 +9,7 @@ ghost use Rattle.ciborium_ll_text.specs.States.{may_end};
 
 use crate::pending::Pending;
 use crate::phase::Phase;
+use crate::pieces::{Pieces, pieces_run};
 use crate::plain::{Run, kept_run};
 use crate::progress::{Copied, End, Progress};
 use crate::snapshot::{Snapshot, is_state};
@@ -64,7 +65,7 @@ impl Copier {
     ghost use Rattle.cbor_copier.specs.Spots.{piece_entered, refused, string_done, string_entered, string_open};
     ghost use Rattle.cbor_copier.specs.Spots.{within_entered};
     ghost use Rattle.cbor_copier.specs.Fronts.{most_cut};
-    ghost use Rattle.cbor_copier.specs.Plain.{AreKept};
+    ghost use Rattle.cbor_copier.specs.Plain.{AreKept, AreWithin};
     ghost use Rattle.cbor_copier.specs.Steps.{Step, TitleStep, byte_put, counted_by, text_left};
     ghost use Rattle.cbor_copier.specs.Steps.{title_place, with_byte, with_char};
     ghost use Rattle.cbor_copier.specs.Reading.{Copies, IsLast, IsMore, IsRoom, Tells};
@@ -461,6 +462,26 @@ impl Copier {
         Some(run)
     }
 
+    /// Writes bytes as they are after the first `at` bytes of `out`. The last title in them begins at `last`. Returns
+    /// where they end.
+    #[inline(always)]
+    fn kept_put(&mut self, last: usize, bytes: &[u8], out: &mut [u8], at: usize) -> usize
+        requires counted { self.old.offset + length bytes.now ≤ usize.MAX }
+        requires last { last ≤ length bytes.now }
+        requires room { at + length bytes.now ≤ length out.old }
+        ensures put { let spot = spot_of self.old in spot_of self.new
+            ≡ record spot { place = spot.offset + last; offset = spot.offset + length bytes.now } }
+        ensures end { result ≡ at + length bytes.now }
+        ensures given { take result out.new ≡ take at out.old ++ bytes.now }
+        ensures rest { drop result out.new ≡ drop result out.old }
+    {
+        let end = at + bytes.len();
+        out[at..end].copy_from_slice(bytes);
+        self.place = self.offset + last;
+        self.offset += bytes.len();
+        end
+    }
+
     /// Writes elements as they are after the first `at` bytes of `out`. The last begins at `last`, and `left` more are
     /// due. Returns where they end.
     #[inline(always)]
@@ -483,16 +504,34 @@ impl Copier {
         ensures given { take result out.new ≡ take at out.old ++ bytes.now }
         ensures rest { drop result out.new ≡ drop result out.old }
     {
-        let end = at + bytes.len();
-        out[at..end].copy_from_slice(bytes);
-        self.place = self.offset + last;
-        self.offset += bytes.len();
+        let end = self.kept_put(last, bytes, out, at);
         self.elements_due(left);
         end
     }
 
-    /// Takes whole elements that the copy keeps, or the bytes of a body that it keeps, or a whole title of an element,
-    /// otherwise one byte. It writes what they put out after the first `at` bytes of `out`. Returns how many bytes it
+    /// Returns all whole pieces at the start of `bytes` that the copy keeps and that fit `room`, if a piece of an open
+    /// string is due and none of its title came.
+    #[inline(always)]
+    fn pieces(&self, bytes: &[u8], room: usize) -> Option<Pieces>
+        ensures due { IfSome result (λ pieces. (self.now.phase ≡ p.Title) × (self.now.front ≡ [])) }
+        ensures fits { IfSome result (λ pieces. (0 < pieces.len) × (pieces.len ≤ length bytes.now)
+            × (pieces.len ≤ room) × (self.now.offset + pieces.len ≤ usize.MAX) × (pieces.last ≤ pieces.len)) }
+        ensures kept { IfSome result (λ pieces. AreWithin self.now.within pieces.last (take pieces.len bytes.now)) }
+    {
+        let (Phase::Title, Within::Open(kind, _), 0) = (self.phase, self.within, self.front.len())
+        else {
+            return None;
+        };
+        let most = bytes.len().min(room).min(usize::MAX - self.offset);
+        let pieces = pieces_run(kind, &bytes[..most]);
+        if pieces.len == 0 {
+            return None;
+        }
+        Some(pieces)
+    }
+
+    /// Takes whole elements or pieces that the copy keeps, or the bytes of a body that it keeps, or a whole title of an
+    /// element, otherwise one byte. It writes what they put out after the first `at` bytes of `out`. Returns how many bytes it
     /// took, and where the output ends.
     #[inline(always)]
     fn advance(&mut self, bytes: &[u8], out: &mut [u8], at: usize) -> (usize, usize)
@@ -528,6 +567,10 @@ impl Copier {
         if let Some((len, header)) = self.title(bytes) {
             self.title_put(len, header);
             return (len, self.pending.give(out, at));
+        }
+        if let Some(pieces) = self.pieces(bytes, out.len() - at) {
+            let end = self.kept_put(pieces.last, &bytes[..pieces.len], out, at);
+            return (pieces.len, end);
         }
         self.step(bytes[0]);
         (1, self.pending.give(out, at))

@@ -8,6 +8,7 @@ mod copier;
 pub mod laws;
 mod pending;
 mod phase;
+mod pieces;
 mod plain;
 mod progress;
 mod snapshot;

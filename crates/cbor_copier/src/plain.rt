@@ -1,23 +1,26 @@
 //! Elements that a copy keeps as they are, and whose bytes are all there.
 
-ghost use Rattle.std.specs.Prelude.{◌≡◌, ◌+◌, ◌-◌, ◌/◌, ◌<◌, ◌≤◌, ◌⊎◌, List, [], drop, take, length, slice_index};
-ghost use Rattle.std.specs.Prelude.{false, true};
+ghost use Rattle.std.specs.Prelude.{◌≡◌, ◌+◌, ◌-◌, ◌/◌, ◌%◌, ◌<◌, ◌≤◌, ◌⊎◌, List, [], drop, take, length, slice_index};
+ghost use Rattle.std.specs.Prelude.{◌≢◌, false, true};
 ghost use Rattle.ciborium_ll_grammar.specs.Elements.{IsStrictRun, Mark};
 ghost use Rattle.ciborium_ll_text.specs.Text.{IsCharacters};
-ghost use Rattle.cbor_copier.specs.Plain.{AreKept, BeginsLonger, IsKept, IsLen};
+ghost use Rattle.ciborium_ll_grammar.specs.Title.{affix_len};
+ghost use Rattle.cbor_copier.specs.Plain.{AreKept, BeginsLonger, IsKept, IsLeast, IsLen, StaysShort};
 
+use ciborium_ll_grammar::limits::LONGEST_TITLE;
+use ciborium_ll_grammar::titles::affix_number;
 use ciborium_ll_text::state::State;
 
-/// The length of an element in bytes, title included, by its first byte, with two lines for each major type. It is 0 if
-/// an affix follows the first byte.
+/// The length of an element in bytes, title included, by its first byte, with two lines for each major type. It is 0 for
+/// a string with an affix, for an indefinite form, and for a byte that begins no title.
 #[rattlefmt::skip]
 static LENS: [u8; 256] = [
     // unsigned integers
     1, 1, 1, 1, 1, 1, 1, 1, 1, 1, 1, 1, 1, 1, 1, 1,
-    1, 1, 1, 1, 1, 1, 1, 1, 0, 0, 0, 0, 0, 0, 0, 0,
+    1, 1, 1, 1, 1, 1, 1, 1, 2, 3, 5, 9, 0, 0, 0, 0,
     // negative integers
     1, 1, 1, 1, 1, 1, 1, 1, 1, 1, 1, 1, 1, 1, 1, 1,
-    1, 1, 1, 1, 1, 1, 1, 1, 0, 0, 0, 0, 0, 0, 0, 0,
+    1, 1, 1, 1, 1, 1, 1, 1, 2, 3, 5, 9, 0, 0, 0, 0,
     // byte strings
     1, 2, 3, 4, 5, 6, 7, 8, 9, 10, 11, 12, 13, 14, 15, 16,
     17, 18, 19, 20, 21, 22, 23, 24, 0, 0, 0, 0, 0, 0, 0, 0,
@@ -26,16 +29,16 @@ static LENS: [u8; 256] = [
     17, 18, 19, 20, 21, 22, 23, 24, 0, 0, 0, 0, 0, 0, 0, 0,
     // arrays
     1, 1, 1, 1, 1, 1, 1, 1, 1, 1, 1, 1, 1, 1, 1, 1,
-    1, 1, 1, 1, 1, 1, 1, 1, 0, 0, 0, 0, 0, 0, 0, 0,
+    1, 1, 1, 1, 1, 1, 1, 1, 2, 3, 5, 9, 0, 0, 0, 0,
     // maps
     1, 1, 1, 1, 1, 1, 1, 1, 1, 1, 1, 1, 1, 1, 1, 1,
-    1, 1, 1, 1, 1, 1, 1, 1, 0, 0, 0, 0, 0, 0, 0, 0,
+    1, 1, 1, 1, 1, 1, 1, 1, 2, 3, 5, 9, 0, 0, 0, 0,
     // tags
     1, 1, 1, 1, 1, 1, 1, 1, 1, 1, 1, 1, 1, 1, 1, 1,
-    1, 1, 1, 1, 1, 1, 1, 1, 0, 0, 0, 0, 0, 0, 0, 0,
+    1, 1, 1, 1, 1, 1, 1, 1, 2, 3, 5, 9, 0, 0, 0, 0,
     // simple values and floats
     1, 1, 1, 1, 1, 1, 1, 1, 1, 1, 1, 1, 1, 1, 1, 1,
-    1, 1, 1, 1, 1, 1, 1, 1, 0, 0, 0, 0, 0, 0, 0, 0,
+    1, 1, 1, 1, 1, 1, 1, 1, 2, 3, 5, 9, 0, 0, 0, 0,
 ];
 
 /// Returns the length of an element by its first byte, or 0.
@@ -49,7 +52,7 @@ fn len_of(first: u8) -> usize
 /// Returns whether these bytes are UTF-8 by themselves. It asks whether they are ASCII only if the first one is.
 #[inline(never)]
 #[tactic(auto, using(crate::proofs::PlainLaws::ascii_text, crate::proofs::PlainLaws::state_text))]
-fn is_text(bytes: &[u8]) -> bool
+pub(crate) fn is_text(bytes: &[u8]) -> bool
     ensures { result ≡ true → IsCharacters bytes.now }
 {
     if !bytes.is_empty() && bytes[0] < 0x80 && bytes.is_ascii() {
@@ -91,10 +94,104 @@ fn stays_in_eight(first: u8, x: u8, y: u8, z: u8, w: u8) -> bool
     first >= 0xe0 || x > 0 || y > 0 || z > 0 || w > 0
 }
 
+/// Returns whether the title at the beginning of `bytes` is the shortest of its header (RFC 7049, 3.9), with a branch by
+/// its width. The bytes hold all of it.
+#[inline(never)]
+fn is_shortest_alone(bytes: &[u8]) -> bool
+    requires some { 0 < length bytes.now }
+    requires whole { affix_len (slice_index bytes.now 0 % 32) < length bytes.now }
+    ensures yes { result ≡ true → StaysShort (slice_index bytes.now 0) (drop 1 bytes.now) }
+    ensures small { slice_index bytes.now 0 % 32 < 24 → result ≡ true }
+{
+    let first = bytes[0];
+    match first % 32 {
+        24 => stays_in_one(first, bytes[1]),
+        25 => stays_in_two(first, bytes[1]),
+        26 => stays_in_four(first, bytes[1], bytes[2]),
+        27 => stays_in_eight(first, bytes[1], bytes[2], bytes[3], bytes[4]),
+        _ => true,
+    }
+}
+
+/// The least number in a title of this width that is the shortest of its header, by its first byte, with two lines for
+/// each major type (RFC 7049, 3.9).
+#[rattlefmt::skip]
+const LEASTS: [u64; 256] = [
+    // unsigned integers
+    0, 0, 0, 0, 0, 0, 0, 0, 0, 0, 0, 0, 0, 0, 0, 0,
+    0, 0, 0, 0, 0, 0, 0, 0, 0x18, 0x100, 0x1_0000, 0x1_0000_0000, 0, 0, 0, 0,
+    // negative integers
+    0, 0, 0, 0, 0, 0, 0, 0, 0, 0, 0, 0, 0, 0, 0, 0,
+    0, 0, 0, 0, 0, 0, 0, 0, 0x18, 0x100, 0x1_0000, 0x1_0000_0000, 0, 0, 0, 0,
+    // byte strings
+    0, 0, 0, 0, 0, 0, 0, 0, 0, 0, 0, 0, 0, 0, 0, 0,
+    0, 0, 0, 0, 0, 0, 0, 0, 0x18, 0x100, 0x1_0000, 0x1_0000_0000, 0, 0, 0, 0,
+    // text strings
+    0, 0, 0, 0, 0, 0, 0, 0, 0, 0, 0, 0, 0, 0, 0, 0,
+    0, 0, 0, 0, 0, 0, 0, 0, 0x18, 0x100, 0x1_0000, 0x1_0000_0000, 0, 0, 0, 0,
+    // arrays
+    0, 0, 0, 0, 0, 0, 0, 0, 0, 0, 0, 0, 0, 0, 0, 0,
+    0, 0, 0, 0, 0, 0, 0, 0, 0x18, 0x100, 0x1_0000, 0x1_0000_0000, 0, 0, 0, 0,
+    // maps
+    0, 0, 0, 0, 0, 0, 0, 0, 0, 0, 0, 0, 0, 0, 0, 0,
+    0, 0, 0, 0, 0, 0, 0, 0, 0x18, 0x100, 0x1_0000, 0x1_0000_0000, 0, 0, 0, 0,
+    // tags
+    0, 0, 0, 0, 0, 0, 0, 0, 0, 0, 0, 0, 0, 0, 0, 0,
+    0, 0, 0, 0, 0, 0, 0, 0, 0x18, 0x100, 0x1_0000, 0x1_0000_0000, 0, 0, 0, 0,
+    // simple values and floats
+    0, 0, 0, 0, 0, 0, 0, 0, 0, 0, 0, 0, 0, 0, 0, 0,
+    0, 0, 0, 0, 0, 0, 0, 0, 0x20, 0, 0, 0, 0, 0, 0, 0,
+];
+
+/// Returns the least number in a title with this first byte that is the shortest of its header (RFC 7049, 3.9).
+#[inline(always)]
+fn least_of(first: u8) -> u64
+    ensures { IsLeast first result }
+{
+    LEASTS[first as usize]
+}
+
+/// Does what [`is_shortest_alone`] does, by the nine bytes from the title on, without a branch by the width.
+#[inline(always)]
+fn is_shortest_of(front: &[u8; LONGEST_TITLE]) -> bool
+    ensures yes { result ≡ true → StaysShort (slice_index front.now 0) (drop 1 front.now) }
+    ensures small { slice_index front.now 0 % 32 < 24 → result ≡ true }
+{
+    let first = front[0];
+    let word = u64::from_be_bytes([
+        front[1], front[2], front[3], front[4], front[5], front[6], front[7], front[8],
+    ]);
+    affix_number(first, word) >= least_of(first)
+}
+
+/// Returns the length of the title at the beginning of `bytes`, if it begins no string, is the shortest of its header
+/// (RFC 7049, 3.9), and all of it is there. Otherwise it returns 0.
+#[inline(always)]
+fn title_len(bytes: &[u8]) -> usize
+    requires some { 0 < length bytes.now }
+    requires bytes { slice_index bytes.now 0 / 32 ≢ 2 }
+    requires text { slice_index bytes.now 0 / 32 ≢ 3 }
+    ensures within { result ≤ length bytes.now }
+    ensures kept { 0 < result → IsKept (take result bytes.now) }
+    ensures none { result ≡ 0 → 24 ≤ slice_index bytes.now 0 % 32 }
+{
+    let len = len_of(bytes[0]);
+    if let Some(front) = bytes.first_chunk::<LONGEST_TITLE>() {
+        if !is_shortest_of(front) {
+            return 0;
+        }
+        return len;
+    }
+    if len == 0 || len > bytes.len() || !is_shortest_alone(bytes) {
+        return 0;
+    }
+    len
+}
+
 /// Returns the length of the string at `at`, if its title has an affix of one byte and is the shortest, and all of the
 /// string is there. Otherwise it returns 0.
 #[inline(always)]
-fn string_len(bytes: &[u8], at: usize) -> usize
+fn long_string_len(bytes: &[u8], at: usize) -> usize
     requires some { at < length bytes.now }
     requires string { (slice_index bytes.now at / 32 ≡ 2) ⊎ (slice_index bytes.now at / 32 ≡ 3) }
     ensures within { at + result ≤ length bytes.now }
@@ -115,34 +212,26 @@ fn string_len(bytes: &[u8], at: usize) -> usize
     len
 }
 
-/// Returns the length of the title at `at`, if it has an affix, is the shortest of its header, and all of it is there.
-/// For a string it returns what [`string_len`] does. Otherwise it returns 0.
+/// Returns the length of the string at `at`, if its title is the shortest and has at most two bytes, and all of the
+/// string is there. Otherwise it returns 0.
 #[inline(always)]
-fn title_len(bytes: &[u8], at: usize) -> usize
+fn string_len(bytes: &[u8], at: usize) -> usize
     requires some { at < length bytes.now }
+    requires string { (slice_index bytes.now at / 32 ≡ 2) ⊎ (slice_index bytes.now at / 32 ≡ 3) }
     ensures within { at + result ≤ length bytes.now }
     ensures kept { 0 < result → IsKept (take result (drop at bytes.now)) }
 {
-    let first = bytes[at];
-    let left = bytes.len() - at;
-    if first / 32 == 2 || first / 32 == 3 {
-        return string_len(bytes, at);
+    let len = len_of(bytes[at]);
+    if len == 0 {
+        return long_string_len(bytes, at);
     }
-    match first % 32 {
-        24 if left >= 2 && stays_in_one(first, bytes[at + 1]) => 2,
-        25 if left >= 3 && stays_in_two(first, bytes[at + 1]) => 3,
-        26 if left >= 5 && stays_in_four(first, bytes[at + 1], bytes[at + 2]) => 5,
-        27
-            if left >= 9
-                && stays_in_eight(
-                    first,
-                    bytes[at + 1],
-                    bytes[at + 2],
-                    bytes[at + 3],
-                    bytes[at + 4],
-                ) => { 9 }
-        _ => 0,
+    if len > bytes.len() - at {
+        return 0;
     }
+    if bytes[at] / 32 == 3 && !is_text(&bytes[at + 1..at + len]) {
+        return 0;
+    }
+    len
 }
 
 /// Returns the length of the element at `at`, if the copy keeps it and all of it is there. A 0 says nothing.
@@ -153,17 +242,10 @@ fn kept_len(bytes: &[u8], at: usize) -> usize
     ensures kept { 0 < result → IsKept (take result (drop at bytes.now)) }
     ensures none { result ≡ 0 → BeginsLonger (slice_index bytes.now at) }
 {
-    let len = len_of(bytes[at]);
-    if len == 0 {
-        return title_len(bytes, at);
+    if bytes[at] / 32 == 2 || bytes[at] / 32 == 3 {
+        return string_len(bytes, at);
     }
-    if len > bytes.len() - at {
-        return 0;
-    }
-    if bytes[at] / 32 == 3 && !is_text(&bytes[at + 1..at + len]) {
-        return 0;
-    }
-    len
+    title_len(&bytes[at..])
 }
 
 /// Elements in a row.
@@ -212,9 +294,6 @@ pub(crate) fn kept_run(bytes: &[u8], most: usize) -> Run
     }
 }
 
-/// The first bytes of a byte string and of a text whose length stands in one byte.
-const STRINGS: [u8; 2] = [0x58, 0x78];
-
 /// Returns whether [`kept_run`] may return an element, by the first title alone.
 #[inline(always)]
 fn may_begin(bytes: &[u8]) -> bool
@@ -224,8 +303,10 @@ fn may_begin(bytes: &[u8]) -> bool
         return false;
     }
     let first = bytes[0];
-    let is_string = first == STRINGS[0] || first == STRINGS[1];
-    len_of(first) > 0 || is_string || title_len(bytes, 0) > 0
+    if first / 32 == 2 || first / 32 == 3 {
+        return first % 32 <= 24;
+    }
+    title_len(bytes) > 0
 }
 
 /// Elements in a row, each in its shortest spelling.

@@ -51,9 +51,12 @@ const SHIFTS: [u32; 32] = [
     0, 0, 0, 0, 0, 0, 0, 0, 56, 48, 32, 0, 0, 0, 0, 0,
 ];
 
-/// Returns the number in the affix at the beginning of the eight bytes of `word`. A table has the affix's length.
+/// Returns the number in the affix at the beginning of the eight bytes of `word` (RFC 7049, 2.1). A table has the affix's
+/// length. Without an affix the call returns `word`.
+///
+/// After `19`, the eight bytes `01 00 20 20 20 20 20 20` give 256.
 #[inline(always)]
-fn affix_number(first: u8, word: u64) -> u64
+pub fn affix_number(first: u8, word: u64) -> u64
     ensures one { first % 32 ≡ 24 → result ≡ word / 2 ^ 56 }
     ensures two { first % 32 ≡ 25 → result ≡ word / 2 ^ 48 }
     ensures four { first % 32 ≡ 26 → result ≡ word / 2 ^ 32 }

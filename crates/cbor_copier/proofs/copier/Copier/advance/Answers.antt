@@ -5,6 +5,7 @@ use Rattle.cbor_copier.specs.Copying.{spot_of}
 use Rattle.cbor_copier.specs.Spots.{Spot}
 use Rattle.cbor_copier.specs.Steps.{counted_by}
 use Rattle.cbor_copier.proofs.KeptLaws.{body_kept, enters, entered_put, steps, given_grows}
+use Rattle.cbor_copier.proofs.PieceLaws.{pieces_given}
 use Rattle.cbor_copier.proofs.PlainLaws.{run_given}
 use Rattle.cbor_copier.proofs.RunLaws.{body_given, first_on, title_given}
 use Rattle.cbor_copier.proofs.copier.Copier.advance.Goals as goal
@@ -62,6 +63,13 @@ returns-in-Some-title-clause-grown c =
     (omega (arith, put, front, long)))
     c.requires.room (search rules) c.give.ensures.given in
     omega (arith, grown)
+
+pub returns-in-Some-pieces-clause-copied : goal.returns-in-Some-pieces-clause-copied
+returns-in-Some-pieces-clause-copied c = λ allowed count fed given is.
+    let pieces = c.in-Some-pieces.pieces in
+    pieces_given allowed count pieces.last (take pieces.len c.args.bytes.now) (spot_of c.args.self.now)
+    (spot_of c.kept_put-end.new.self) fed given (take c.args.at c.args.out.now) _ (search rules) (search rules)
+    (search rules) c.requires.given c.kept_put-end.ensures.put c.kept_put-end.ensures.given is
 
 pub returns-clause-copied : goal.returns-clause-copied
 returns-clause-copied c = λ allowed count fed given is.

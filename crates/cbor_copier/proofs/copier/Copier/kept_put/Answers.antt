@@ -1,6 +1,6 @@
 use Rattle.std.proofs.Common.{length, arith, rules}
 use Rattle.cbor_copier.proofs.PendingLaws.{behind_put}
-use Rattle.cbor_copier.proofs.copier.Copier.run_put.Goals as goal
+use Rattle.cbor_copier.proofs.copier.Copier.kept_put.Goals as goal
 
 pub returns-clause-rest : goal.returns-clause-rest
 returns-clause-rest c =

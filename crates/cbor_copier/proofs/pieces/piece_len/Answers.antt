@@ -1,0 +1,36 @@
+use Rattle.std.proofs.Common.{◌≡◌, ℕ, ◌+◌, ◌-◌, List, add-zero, ap, arith, drop, length, length-drop, slice_index}
+use Rattle.std.proofs.Common.{take}
+use Rattle.std.proofs.lemmas.List.{drop_more, get_or-drop}
+use Rattle.ciborium_ll_text.specs.Text.{IsCharacters}
+use Rattle.ciborium_ll_text.proofs.Lists.{Below}
+use Rattle.cbor_copier.proofs.PieceLaws.{bytes_piece, text_piece}
+use Rattle.cbor_copier.proofs.pieces.piece_len.Goals as goal
+
+pub returns-in-Bytes-clause-kept : goal.returns-in-Bytes-clause-kept
+returns-in-Bytes-clause-kept c = λ more.
+    let xs = c.args.bytes.now in
+    let at = c.args.at in
+    let len = 1 + c.from-len.result in
+    let rest : List ℕ = drop at xs in
+    let long : length rest ≡ length xs - at = length-drop at xs in
+    let below : Below rest = λ i less. omega (arith, get_or-drop at xs i 0, (c.type_inv.bytes (at + i)).fits) in
+    let first : slice_index rest 0 ≡ slice_index xs at = rw add-zero at (get_or-drop at xs 0 0) in
+    rw c.in-Bytes.is (bytes_piece rest len below (omega (arith, long, c.requires.some)) (omega (arith, first, c.from-len.ensures))
+    (omega (arith, first, c.if-first-ge24.false)) (omega (arith, long, c.if-len-bytes.false))
+    (omega (arith, first, c.if-first-eq2.true)))
+
+pub returns-in-Text-clause-kept : goal.returns-in-Text-clause-kept
+returns-in-Text-clause-kept c = λ more.
+    let xs = c.args.bytes.now in
+    let at = c.args.at in
+    let len = 1 + c.from-len.result in
+    let rest : List ℕ = drop at xs in
+    let long : length rest ≡ length xs - at = length-drop at xs in
+    let below : Below rest = λ i less. omega (arith, get_or-drop at xs i 0, (c.type_inv.bytes (at + i)).fits) in
+    let first : slice_index rest 0 ≡ slice_index xs at = rw add-zero at (get_or-drop at xs 0 0) in
+    let behind : drop 1 rest ≡ drop (at + 1) xs = ap (λ (z : List ℕ). drop 1 z) (drop_more xs at 0 c.requires.some) in
+    let count : at + len - (at + 1) ≡ len - 1 = omega arith in
+    let text : IsCharacters (take (len - 1) (drop 1 rest)) = rw behind (rw count at (c.is_text.ensures c.if-is_text.true)) in
+    rw c.in-Text.is (text_piece rest len below (omega (arith, long, c.requires.some)) (omega (arith, first, c.from-len.ensures))
+    (omega (arith, first, c.if-first-ge24.false)) (omega (arith, long, c.if-len-bytes.false))
+    (omega (arith, first, c.if-first-eq3.true)) text)
