@@ -2,7 +2,7 @@
 
 pub use ciborium_ll_buffers::{BufferedReader, BufferedWriter, FaultKept, KeepingReader};
 pub use ciborium_ll_io::io::{
-    Discard, EndOfFile, Failures, OutOfSpace, Read, SliceReader, SliceWriter, Write,
+    AT_HAND, Discard, EndOfFile, Failures, OutOfSpace, Read, SliceReader, SliceWriter, Write,
 };
 pub use ciborium_ll_streams::{
     OutOfMemory, ReadFault, StdReader, StdWriter, VecWriter, WriteFault,

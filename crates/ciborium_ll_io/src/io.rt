@@ -7,6 +7,7 @@ ghost use Rattle.std.specs.Prelude.{OnOk, OnErr, slice_index, ◌%◌, ◌∷◌
 ghost use Rattle.std.specs.declared.option.Option.{Option};
 ghost use Rattle.std.specs.Io.KnownBytes.{Appends, Consumes};
 ghost use Rattle.ciborium_ll_io.specs.Transfer.{Shrinks, AppendsFront, Target};
+ghost use Rattle.ciborium_ll_io.specs.declared.io.TheConstants.{AT_HAND};
 
 mod discard;
 mod failures;
@@ -17,6 +18,9 @@ mod taken;
 pub use self::discard::Discard;
 pub use self::failures::Failures;
 pub use self::slices::{EndOfFile, OutOfSpace, SliceReader, SliceWriter, copy_chunk};
+
+/// How many bytes [`Read::read_at_hand`] returns: as many as the longest title has (RFC 7049, 2.1).
+pub const AT_HAND: usize = 9;
 
 /// A source of bytes.
 pub trait Read {
@@ -49,12 +53,12 @@ pub trait Read {
         ensures missing { OnErr result (IsTrue (steady self.old)
             → IfSome (ahead self.old) (λ bytes. length bytes < length «data».old)) };
 
-    /// Returns the next byte and the eight bytes after it, if the reader has these nine bytes at hand.
+    /// Returns the next byte and the eight bytes after it, if the reader has these [`AT_HAND`] bytes at hand.
     ///
-    /// It consumes as many of the nine as `lens` has for the lower five bits of the first: those of a title (RFC 7049,
+    /// It consumes as many of them as `lens` has for the lower five bits of the first: those of a title (RFC 7049,
     /// 2.1). `None` consumes nothing. By default a reader has no bytes at hand, and [`Read::read_exact`] gives them.
     fn read_at_hand(&mut self, lens: &[u8; 32]) -> Option<(u8, [u8; 8])>
-        requires { (minor : ℕ) → minor < 32 → slice_index lens.now minor ≤ 9 }
+        requires { (minor : ℕ) → minor < 32 → slice_index lens.now minor ≤ AT_HAND }
         ensures bytes { IfSome result (λ found. Consumes (ahead self.old) (ahead self.new)
             (take (slice_index lens.now (found.0 % 32)) (found.0 ∷ found.1))) }
         ensures failures { failures self.new ≡ failures self.old }

@@ -1,10 +1,11 @@
 //! A reader and a writer over slices.
 
 ghost use Rattle.std.specs.Prelude.{true, ◌≡◌, ◌≤◌, ◌+◌, ◌++◌, ◌∷◌, ℕ, List, [], IfSome, Some, drop, length, refl};
+ghost use Rattle.ciborium_ll_io.specs.declared.io.TheConstants.{AT_HAND};
 
 use super::failures::Failures;
 use super::taken::Taken;
-use super::{Read, Write};
+use super::{AT_HAND, Read, Write};
 
 /// Fewer bytes are left than a read wants. Nothing was consumed.
 #[derive(Debug, Drop)]
@@ -73,21 +74,21 @@ impl<'a> Read for SliceReader<'a> {
         Ok(())
     }
 
-    /// Returns the next byte and the eight bytes after it, exactly if at least nine bytes are left.
+    /// Returns the next byte and the eight bytes after it, exactly if at least [`AT_HAND`] bytes are left.
     #[inline(always)]
     fn read_at_hand(&mut self, lens: &[u8; 32]) -> Option<(u8, [u8; 8])>
         // The trait's.
-        requires { (minor : ℕ) → minor < 32 → slice_index lens.now minor ≤ 9 }
+        requires { (minor : ℕ) → minor < 32 → slice_index lens.now minor ≤ AT_HAND }
         ensures bytes { IfSome result (λ found. Consumes (Some self.old.left.now) (Some self.new.left.now)
             (take (slice_index lens.now (found.0 % 32)) (found.0 ∷ found.1))) }
         ensures failures { self.new.failures.count ≡ self.old.failures.count }
         ensures none { IfNone result (self.new ≡ self.old) }
 
         // The slice's own.
-        ensures few { IfNone result (length self.old.left.now < 9) }
-        ensures found { IfSome result (λ found. take 9 self.old.left.now ≡ found.0 ∷ found.1) }
+        ensures few { IfNone result (length self.old.left.now < AT_HAND) }
+        ensures found { IfSome result (λ found. take AT_HAND self.old.left.now ≡ found.0 ∷ found.1) }
     {
-        let (&first, rest) = self.left.first_chunk::<9>()?.split_first()?;
+        let (&first, rest) = self.left.first_chunk::<AT_HAND>()?.split_first()?;
         let affix = *rest.first_chunk::<8>()?;
         self.left = &self.left[usize::from(lens[usize::from(first % 32)])..];
         Some((first, affix))
