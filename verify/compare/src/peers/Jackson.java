@@ -20,7 +20,7 @@ final class Jackson {
     /** How often the work is done before the rounds that count, at most, and on how many bytes. */
     private static final long MOST_ROUNDS = 3000;
 
-    private static final long WARM = 400L << 20;
+    private static final long WARM = 64L << 20;
 
     private static final CBORFactory FACTORY = new CBORFactory();
 

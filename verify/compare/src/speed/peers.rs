@@ -16,11 +16,14 @@ const LEAST: f64 = 0.1;
 /// More bytes than an item has, so that it comes in one piece.
 const WHOLE: usize = 1 << 30;
 
-/// A timed run of a program that is compiled while it runs takes at least this many seconds.
+/// A timed run of a program that is compiled or read while it runs takes at least this many seconds.
 const LEAST_WARM: f64 = 2.0;
 
-/// A timed run of such a program has at least this many rounds.
-const LEAST_ROUNDS: usize = 64;
+/// A timed run of a program in Java has at least this many rounds.
+const JAVA_ROUNDS: usize = 64;
+
+/// A timed run of a program in Python or JavaScript has at least this many rounds.
+const SCRIPT_ROUNDS: usize = 2;
 
 /// A library, as the table names it, and the name of the program that does its works.
 struct Side {
@@ -30,6 +33,8 @@ struct Side {
     is_native: bool,
     /// Whether its instructions are counted. Go's collector takes more or fewer of them from run to run.
     is_counted: bool,
+    /// How many rounds a timed run has at least.
+    rounds: usize,
 }
 
 /// The library for C.
@@ -43,12 +48,19 @@ const OTHERS: &[Side] = &[
     native("nlohmann", "nlohmann"),
     Side { is_counted: false, ..native("fxamacker", "fxamacker") },
     native("Qt", "qt"),
-    Side { name: "Jackson", program: "jackson", is_native: false, is_counted: false },
+    managed("Jackson", "jackson", JAVA_ROUNDS),
+    managed("cbor2", "cbor2", SCRIPT_ROUNDS),
+    managed("node-cbor", "node_cbor", SCRIPT_ROUNDS),
 ];
 
 /// Returns a library whose program is machine code.
 const fn native(name: &'static str, program: &'static str) -> Side {
-    Side { name, program, is_native: true, is_counted: true }
+    Side { name, program, is_native: true, is_counted: true, rounds: 1 }
+}
+
+/// Returns a library whose program is compiled or read while it runs.
+const fn managed(name: &'static str, program: &'static str, rounds: usize) -> Side {
+    Side { name, program, is_native: false, is_counted: false, rounds }
 }
 
 /// A call of ours, with its work and the works of the others. The works are words of the programs.
@@ -161,7 +173,8 @@ fn sum_of(program: &str, work: &str, call: &Call, input: &Input) -> Option<Vec<u
 
 /// Returns the time and the instructions of a work. From the least time of many rounds goes that of none.
 fn taken(asked: &Asked, side: &Side, program: &str, work: &str, call: &Call, input: &Input) -> io::Result<Taken> {
-    let (mut rounds, due) = if side.is_native { (1, LEAST) } else { (LEAST_ROUNDS, LEAST_WARM) };
+    let mut rounds = side.rounds;
+    let due = if side.is_native { LEAST } else { LEAST_WARM };
     let least = |rounds: usize, turns: usize| {
         let sides = [run(program, work, call, rounds), run(program, work, call, 0)];
         best_times(&sides, input, Origin::File, turns).map(|[all, none]| all - none)
