@@ -1,4 +1,5 @@
 -- The parts of a header, by the first byte of its title and the eight bytes after it.
+use Rattle.std.specs.Prelude.{◌≤◌, ◌^◌, IfNone, IfSome, MatchOption, None, Option, Some}
 use Rattle.std.proofs.Common.{◌≡◌, ℕ, ◌+◌, ◌*◌, ◌/◌, ◌%◌, ◌<◌, inl, inr, List, [], ◌∷◌, ◌++◌, length, refl, sym}
 use Rattle.std.proofs.Common.{◌∙◌, subst, arith, slice_index}
 use Rattle.std.specs.Array.{IsFirstChunk}
@@ -8,10 +9,6 @@ use Rattle.std.proofs.lemmas.Nat.{be_bytes_2, be_bytes_4, be_bytes_8}
 use Rattle.ciborium_ll.specs.Types.Header.{Header}
 use Rattle.ciborium_ll_grammar.specs.Title.{IsTitle, numbered, Major, Size, Small, One, Two, Four, Eight, numbered_header}
 use Rattle.ciborium_ll_grammar.specs.Title.{affix_of, affix_len, first_byte, minor_of, size_limit, IsRefused, AreBytes}
-use Rattle.ciborium_ll_grammar.specs.Title.{NamesNoTitle}
-use Rattle.ciborium_ll_grammar.specs.TitleRows.{IsTitleKind}
-use Rattle.ciborium_ll_grammar.specs.declared.hdr.table.TitleKind.{TitleKind}
-use Rattle.ciborium_ll_grammar.specs.declared.hdr.table.TitleKind.TheVariants as k
 use Rattle.ciborium_ll_grammar.proofs.AffixLaws.{MinorCases, byte_at, major_with, minor_cases, one_byte}
 use Rattle.ciborium_ll_grammar.proofs.AffixLaws.{title_or_refused}
 use Rattle.capi.specs.declared.answer.CllAnswer.TheVariants as a
@@ -132,19 +129,6 @@ module _ (b word : ℕ) (parts : CllHeader) (byte : b < 256) (taken : IsRefused 
     pub front_told : CllPull (b ∷ After ++ more) a.Ok old parts len
     front_told = by_minor (minor_cases (b % 32) (omega arith))
 
--- A title begins with a first byte whose row names a kind of titles.
-pub kind_taken : (kind : TitleKind) (major minor : ℕ) → IsTitleKind kind major minor → (kind ≡ k.Refused → ⊥)
-    → NamesNoTitle major minor → ⊥
-kind_taken k.Positive major minor names not none = names.1 none
-kind_taken k.Negative major minor names not none = names.1 none
-kind_taken k.Bytes major minor names not none = names.1 none
-kind_taken k.Text major minor names not none = names.1 none
-kind_taken k.Array major minor names not none = names.1 none
-kind_taken k.Map major minor names not none = names.1 none
-kind_taken k.Tag major minor names not none = names.1 none
-kind_taken k.Other major minor names not none = names.1 none
-kind_taken k.Refused major minor names not none = not refl
-
 -- At least nine bytes, the first nine of which give these parts, begin with the title of these parts.
 pub chunk_told : (bytes front : List ℕ) (word : ℕ) (parts old : CllHeader) (len : ℕ) → IsFirstChunk bytes front 9
     → ((i : ℕ) → slice_index bytes i < 256) → (IsRefused (slice_index front 0) → ⊥)
@@ -204,3 +188,33 @@ byte_told bytes front parts old chunk at byte small kind value form =
     let b = slice_index front 0 in
     chunk_told bytes front _ parts old 1 chunk at (holds_title b small) refl (kind ∙ small_kind b byte small)
     (value ∙ small_number b _ small) (form ∙ small_form b small) (small_length b small)
+
+-- The number of an affix, by its length.
+pub affixed_number : (minor n word : ℕ) → 24 ≤ minor → minor ≤ 27 → (minor ≡ 24 → n ≡ word / 2 ^ 56)
+    → (minor ≡ 25 → n ≡ word / 2 ^ 48) → (minor ≡ 26 → n ≡ word / 2 ^ 32) → (minor ≡ 27 → n ≡ word)
+    → n ≡ number_in minor word
+affixed_number minor n word least most one two four eight = grind tests
+
+-- A title with an affix is of no indefinite form.
+pub affixed_form : (b : ℕ) → b % 32 ≤ 27 → 0 ≡ form_in b
+affixed_form b most = grind tests
+
+open_number : (minor word : ℕ) → 27 < minor → number_in minor 0 ≡ number_in minor word
+open_number minor word least = grind tests
+
+open_length : (b : ℕ) → 27 < b % 32 → 1 ≡ 1 + affix_len (b % 32)
+open_length b least = grind tests
+
+-- At least nine bytes whose first one has no number begin with the title of these parts, if they begin with one.
+pub open_told : (bytes front : List ℕ) (parts old : CllHeader) (result : Option ℕ) → IsFirstChunk bytes front 9
+    → ((i : ℕ) → slice_index bytes i < 256) → 27 < slice_index front 0 % 32 → IfNone result (parts ≡ old)
+    → IfSome result (λ len. IsRefused (slice_index front 0) → ⊥) → IfSome result (λ len. len ≡ 1)
+    → IfSome result (λ len. parts.value ≡ number_in (slice_index front 0 % 32) 0)
+    → IfSome result (λ len. parts.kind ≡ kind_in (slice_index front 0))
+    → IfSome result (λ len. parts.indefinite ≡ form_in (slice_index front 0))
+    → MatchOption result (parts ≡ old) (λ len. CllPull bytes a.Ok old parts len)
+open_told bytes front parts old None chunk at least same taken one value kind form = same
+open_told bytes front parts old (Some len) chunk at least same taken one value kind form =
+    let b = slice_index front 0 in
+    chunk_told bytes front _ parts old len chunk at taken refl kind (value ∙ open_number (b % 32) _ least) form
+    (one ∙ open_length b least)

@@ -1,5 +1,5 @@
 -- The answers of `cll_canonical`, by the result of `canonical_into`.
-use Rattle.std.proofs.Common.{◌≡◌, ℕ, ◌≤◌, ◌-◌, ◌∙◌, ◌++◌, List, length, length-append, take, ap, sym, subst, refl}
+use Rattle.std.proofs.Common.{◌≡◌, ℕ, ◌≤◌, ◌-◌, ◌∙◌, List, length, length-append, take, ap, sym, subst, refl}
 use Rattle.std.proofs.Common.{arith}
 use Rattle.cbor_canonical.specs.declared.Why.{Why}
 use Rattle.cbor_canonical.specs.Canonical.{IsCanonical}

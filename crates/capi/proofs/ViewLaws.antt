@@ -13,7 +13,7 @@ use Rattle.cbor_view.specs.declared.item.Item.{Item}
 use Rattle.cbor_view.specs.Held.{item_bytes, item_depth}
 use Rattle.cbor_view.specs.Pairs.{HasFirst, HasNone}
 use Rattle.ciborium_ll_grammar.specs.Title.{HasFirstTitle, HasNoTitle}
-use Rattle.cbor_view.specs.Views.{IsBytesOf, IsOpenedBy, IsTextOf}
+use Rattle.cbor_view.specs.Views.{IsBytesOf, IsTextOf}
 use Rattle.capi.specs.declared.answer.CllAnswer.{CllAnswer}
 use Rattle.capi.specs.declared.answer.CllAnswer.TheVariants as a
 use Rattle.capi.specs.declared.header.CllHeader.{CllHeader}

@@ -1,50 +1,56 @@
-//! The title at the beginning of at least nine bytes. After one test for a title of one byte, no branch depends on the
-//! width or the kind: tables have them.
+//! The title at the beginning of at least nine bytes. For a title with an affix, no branch depends on the width or the
+//! kind: tables have them.
 
-ghost use Rattle.std.specs.Prelude.{◌≡◌, ◌%◌, ◌<◌, ◌≤◌, ℕ, MatchOption, slice_index};
-ghost use Rattle.ciborium_ll_grammar.specs.TitleRows.{IsAffix};
+ghost use Rattle.std.specs.Prelude.{◌≡◌, ◌%◌, ◌<◌, ◌≤◌, IfNone, IfSome, MatchOption};
+ghost use Rattle.ciborium_ll_grammar.specs.Title.{IsRefused};
 ghost use Rattle.capi.specs.declared.answer.CllAnswer.TheVariants as a;
 ghost use Rattle.capi.specs.Fronts.{form_in, kind_in, number_in};
 ghost use Rattle.capi.specs.Pulling.{CllPull};
 
 use crate::header::CllHeader;
-use ciborium_ll_grammar::hdr::table::{Affix, TitleKind, row_of};
+use ciborium_ll_grammar::hdr::table::{TitleKind, row_of, title_lens};
 use ciborium_ll_grammar::limits::LONGEST_TITLE;
+use ciborium_ll_grammar::titles::affix_number;
 
 /// The least first byte of the major type 7.
 const OTHERS: u8 = 0xe0;
 
-/// The kind of a title of the major type 7, for each variant of [`Affix`].
-const OTHER_KINDS: [u8; 7] = [7, 7, 8, 9, 10, 11, 11];
+/// The kind of a simple value. Those of a half, a single and a double follow it.
+const SIMPLE: u8 = 7;
 
-/// How many bits of the eight bytes after a first byte follow the number, for each variant of [`Affix`].
-const SHIFTS: [u32; 7] = [0, 56, 48, 32, 0, 0, 0];
+/// The kind of a break.
+const BREAK: u8 = 11;
 
-/// Returns the number of a title of more than one byte, or 0 if it has none. `word` is the eight bytes after the first.
+/// Returns the kind of a title with an affix, by its first byte. No branch depends on the width.
 #[inline(always)]
-fn number(affix: Affix, word: u64) -> u64
-    ensures { (minor : ℕ) → IsAffix affix minor → 24 ≤ minor → result ≡ number_in minor word }
-{
-    let after = word >> SHIFTS[affix as usize];
-    if affix.len() > 0 { after } else { 0 }
-}
-
-/// Returns the kind of a title.
-#[inline(always)]
-fn kind(affix: Affix, first: u8) -> u8
-    requires { IsAffix affix (first % 32) }
+fn affixed_kind(first: u8) -> u8
+    requires least { 24 ≤ first % 32 }
+    requires most { first % 32 ≤ 27 }
     ensures { result ≡ kind_in first }
 {
-    let other = OTHER_KINDS[affix as usize];
+    let other = SIMPLE + (first % 32 - 24);
     if first < OTHERS { first / 32 } else { other }
 }
 
-/// Returns 1 for a title of an indefinite form, and 0 otherwise.
+/// Gives the parts of the header of a title that has no number, and returns the length of the title. `None` means that
+/// no title begins with this byte.
 #[inline(always)]
-fn form(first: u8) -> u8
-    ensures { result ≡ form_in first }
+fn pull_open(first: u8, header: &mut CllHeader) -> Option<usize>
+    requires { 27 < first % 32 }
+    ensures none { IfNone result (header.new ≡ header.old) }
+    ensures taken { IfSome result (λ len. IsRefused first → ⊥) }
+    ensures len { IfSome result (λ len. len ≡ 1) }
+    ensures value { IfSome result (λ len. header.new.value ≡ number_in (first % 32) 0) }
+    ensures kind { IfSome result (λ len. header.new.kind ≡ kind_in first) }
+    ensures form { IfSome result (λ len. header.new.indefinite ≡ form_in first) }
 {
-    u8::from(first % 32 == 31 && first < OTHERS)
+    if let TitleKind::Refused = row_of(first).kind {
+        return None;
+    }
+    header.value = 0;
+    header.kind = if first < OTHERS { first / 32 } else { BREAK };
+    header.indefinite = u8::from(first < OTHERS);
+    Some(1)
 }
 
 /// Gives the parts of the header of the title at the beginning, and returns the length of the title. `None` means that
@@ -62,15 +68,14 @@ pub(crate) fn pull_front(bytes: &[u8], header: &mut CllHeader) -> Option<usize>
         header.indefinite = 0;
         return Some(1);
     }
-    let row = row_of(first);
-    if let TitleKind::Refused = row.kind {
-        return None;
+    if first % 32 > 27 {
+        return pull_open(first, header);
     }
     let word = u64::from_be_bytes([
         front[1], front[2], front[3], front[4], front[5], front[6], front[7], front[8],
     ]);
-    header.value = number(row.affix, word);
-    header.kind = kind(row.affix, first);
-    header.indefinite = form(first);
-    Some(1 + row.affix.len())
+    header.value = affix_number(first, word);
+    header.kind = affixed_kind(first);
+    header.indefinite = 0;
+    Some(usize::from(title_lens()[usize::from(first % 32)]))
 }
