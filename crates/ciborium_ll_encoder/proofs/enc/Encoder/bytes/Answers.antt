@@ -1,6 +1,6 @@
 use Rattle.std.proofs.Common.{arith}
 use Rattle.ciborium_ll_grammar.specs.Strings.{Bytes}
-use Rattle.ciborium_ll_encoder.proofs.Writes.{value_unopened}
+use Rattle.ciborium_ll_encoder.proofs.Writes.{value_unopened, values}
 use Rattle.ciborium_ll_encoder.proofs.enc.Encoder.bytes.Goals as goal
 
 pub returns-in_err-push : goal.returns-in_err-push
@@ -9,3 +9,9 @@ returns-in_err-push g c = record {
       c.in_err-push.ensures.title;
   target = c.in_err-push.ensures.target;
 }
+
+pub returns-then-value-limit : goal.returns-then-value-limit
+returns-then-value-limit g c = grind (arith, values)
+
+pub returns : goal.returns
+returns g c = grind (arith, values)

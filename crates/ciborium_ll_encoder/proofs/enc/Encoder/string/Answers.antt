@@ -1,5 +1,10 @@
-use Rattle.ciborium_ll_encoder.proofs.EncodingLaws.{WritesBytes-of, WritesBytes-then}
+use Rattle.ciborium_ll_encoder.proofs.EncodingLaws.{WritesBytes-of, WritesBytes-stopped, WritesBytes-then}
 use Rattle.ciborium_ll_encoder.proofs.enc.Encoder.string.Goals as goal
+
+pub returns-in_err-push-clause-bytes : goal.returns-in_err-push-clause-bytes
+returns-in_err-push-clause-bytes g c =
+    WritesBytes-stopped g.W.Write _ _ c.from_residual.result _ c.args.body.now c.from_residual.ensures.0
+    c.in_err-push.ensures.title
 
 pub returns-clause-bytes : goal.returns-clause-bytes
 returns-clause-bytes g c =
