@@ -25,29 +25,36 @@ segments-init g c = record {
 }
 
 pub returns-clause-copied : goal.returns-clause-copied
-returns-clause-copied g c = λ count before old within.
+returns-clause-copied g c =
+    let none : c.in_ok-body.field-0 ≡ None = search rules in
+    λ count before old within.
+    subst (λ (d : Decoder g.row.R.Denot). ReadsString g.R.Read g.W.Write before g.P.Parser.kind old
+    (sides_of d c.segments.encoder)) {x = c.advance.new.self.decoder.now} (search rules) (
     let k = g.P.Parser.kind in
     let so_far = c.segments.invariant.so_far in
-    let none : c.in_ok-body.field-0 ≡ None = search rules in
     let all = leads g.R.Read g.W.Write k so_far _ c.segments.invariant.mode (Ok None) c.advance.new.self.progress
     c.advance.new.self.decoder.now (rw none at c.in_ok-body.ensures.advances) c.advance.ensures.moves_on.steady in
-    subst (λ (d : Decoder g.row.R.Denot). ReadsString g.R.Read g.W.Write before k old (sides_of d c.segments.encoder))
-    (search rules) (segments_end g.R.Read g.W.Write k so_far within all)
+    segments_end g.R.Read g.W.Write k so_far within all
+    )
 
 pub returns-in_err-body-clause-copied : goal.returns-in_err-body-clause-copied
 returns-in_err-body-clause-copied g c = λ count before old within.
+    subst (λ (d : Decoder g.row.R.Denot). GoesOnWithin g.R.Read g.W.Write count before g.P.Parser.kind (length c.args.buffer.now)
+    old c.from_residual.result (sides_of d c.segments.encoder)) {x = c.advance.new.self.decoder.now} (search rules) (
     let k = g.P.Parser.kind in
     let so_far = c.segments.invariant.so_far in
     let error = c.in_err-body.field-0.0 in
     let same = exit_is c.from_residual.result (r.Read error) c.from_residual.ensures.1 in
     let all = leads g.R.Read g.W.Write k so_far _ c.segments.invariant.mode (Err error) c.advance.new.self.progress
     c.advance.new.self.decoder.now c.in_err-body.ensures.advances c.advance.ensures.moves_on.steady in
-    subst (λ (d : Decoder g.row.R.Denot). GoesOnWithin g.R.Read g.W.Write count before k (length c.args.buffer.now)
-    old c.from_residual.result (sides_of d c.segments.encoder)) {x = c.advance.new.self.decoder.now} (search rules)
-    (rw same (segments_stop g.R.Read g.W.Write k so_far within (length c.args.buffer.now) error all))
+    rw same (segments_stop g.R.Read g.W.Write k so_far within (length c.args.buffer.now) error all)
+    )
 
 pub returns-in_err-write_header-clause-copied : goal.returns-in_err-write_header-clause-copied
 returns-in_err-write_header-clause-copied g c = λ count before old within.
+    subst (λ (d : Decoder g.row.R.Denot). GoesOnWithin g.R.Read g.W.Write count before g.P.Parser.kind (length c.args.buffer.now)
+    old c.from_residual-in_err-write_header.result (sides_of d c.write_header.new.encoder))
+    {x = c.advance.new.self.decoder.now} (search rules) (
     let k = g.P.Parser.kind in
     let so_far = c.segments.invariant.so_far in
     let same = exit_is c.from_residual-in_err-write_header.result c.in_err-write_header.field-0.0 c.from_residual-in_err-write_header.ensures.1 in
@@ -56,11 +63,9 @@ returns-in_err-write_header-clause-copied g c = λ count before old within.
     c.advance.new.self.progress c.advance.new.self.decoder.now advances c.advance.ensures.moves_on.steady in
     let stands = announced g.R.Read g.W.Write k so_far within all in
     let wrote = rw c.header.ensures at c.in_err-write_header.ensures.header in
-    subst (λ (d : Decoder g.row.R.Denot). GoesOnWithin g.R.Read g.W.Write count before k (length c.args.buffer.now)
-    old c.from_residual-in_err-write_header.result (sides_of d c.write_header.new.encoder))
-    {x = c.advance.new.self.decoder.now} (search rules)
-    (rw same (header_stops g.R.Read g.W.Write {room = length c.args.buffer.now} _ c.in_err-write_header.field-0.0
-    c.write_header.new.encoder.writer (Titled _ k _ _ stands.reach) stands.copied wrote))
+    rw same (header_stops g.R.Read g.W.Write {room = length c.args.buffer.now} _ c.in_err-write_header.field-0.0
+    c.write_header.new.encoder.writer (Titled _ k _ _ stands.reach) stands.copied wrote)
+    )
 
 pub segments-smaller : goal.segments-smaller
 segments-smaller g c =
@@ -97,6 +102,9 @@ segments-preserved g c =
 
 pub returns-in_err-copy-clause-copied : goal.returns-in_err-copy-clause-copied
 returns-in_err-copy-clause-copied g c = λ count before old within.
+    subst (λ (d : Decoder g.row.R.Denot). GoesOnWithin g.R.Read g.W.Write count before g.P.Parser.kind (length c.args.buffer.now)
+    old c.from_residual-in_err-copy.result (sides_of d c.copy.new.writer)) {x = c.copy.new.self.decoder.now}
+    (search rules) (
     let k = g.P.Parser.kind in
     let so_far = c.segments.invariant.so_far in
     let same = exit_is c.from_residual-in_err-copy.result c.in_err-copy.field-0.0 c.from_residual-in_err-copy.ensures.1 in
@@ -112,10 +120,6 @@ returns-in_err-copy-clause-copied g c = λ count before old within.
     (through_encoder g.R.Read g.W.Write k body.length (length c.segments.buffer) body.place
     c.advance.new.self.decoder.now c.copy.new.self.decoder.now c.write_header.new.encoder c.copy.new.writer
     (Err error) (rw c.in_err-copy.was at c.copy.ensures.copied)) in
-    subst (λ (d : Decoder g.row.R.Denot). GoesOnWithin g.R.Read g.W.Write count before k (length c.args.buffer.now)
-    old c.from_residual-in_err-copy.result (sides_of d c.copy.new.writer)) {x = c.copy.new.self.decoder.now}
-    (search rules)
-    (rw same (segment_stops g.R.Read g.W.Write k so_far within all (length c.args.buffer.now) _
-    (sides_of c.copy.new.self.decoder.now c.copy.new.writer) error titled stops))
-
--- ---- the writer stays on its slice
+    rw same (segment_stops g.R.Read g.W.Write k so_far within all (length c.args.buffer.now) _
+    (sides_of c.copy.new.self.decoder.now c.copy.new.writer) error titled stops)
+    )
