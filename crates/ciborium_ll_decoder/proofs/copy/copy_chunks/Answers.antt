@@ -16,20 +16,21 @@ chunks-init g c = record {
 
 pub chunks-preserved : goal.chunks-preserved
 chunks-preserved g c =
-    let kept = c.chunks.invariant in
-    let pulled = c.in_ok-chunk.ensures in
-    let gives = rw c.in-Some.is at pulled.chunk in
     let wrote : c.write_all.result ≡ Ok (tt {0}) = search rules in
     record {
       same = search rules;
-      so_far = so_far_chunk g.R.Read g.W.Write _ _ _ _ kept.so_far _ _ c.chunk.new.segment _ gives
-          pulled.moves_on.steady
+      so_far = (
+          let kept = c.chunks.invariant in
+          let pulled = c.in_ok-chunk.ensures in
+          let gives = rw c.in-Some.is at pulled.chunk in
+          so_far_chunk g.R.Read g.W.Write _ _ _ _ kept.so_far _ _ c.chunk.new.segment _ gives pulled.moves_on.steady
           (record {
             appended = rw wrote at c.write_all.ensures.bytes;
             room = rw wrote at c.write_all.ensures.fills;
             failures = rw wrote at c.write_all.ensures.ok;
-          });
-      moves_on = MovesOn-then g.R.Read _ _ _ kept.moves_on pulled.moves_on;
+          })
+          );
+      moves_on = MovesOn-then g.R.Read _ _ _ c.chunks.invariant.moves_on c.in_ok-chunk.ensures.moves_on;
       target = search rules;
     }
 
@@ -51,12 +52,12 @@ returns-in_err-chunk-clause-copied g c =
 
 pub returns-in_err-map_err-clause-copied : goal.returns-in_err-map_err-clause-copied
 returns-in_err-map_err-clause-copied g c =
-    let pulled = c.in_ok-chunk.ensures in
-    let gives = rw c.chunks.auto.buffer at (rw c.in-Some.is at pulled.chunk) in
     let error = c.in_err-map_err.field-0.0 in
-    let same = exit_is c.from_residual-in_err-map_err.result error c.from_residual-in_err-map_err.ensures.1 in
     let failed = write_refused c.write_all.result c.map_err.result error c.in_err-map_err.was (search rules) in
     let wrote = failed.1 in
+    let pulled = c.in_ok-chunk.ensures in
+    let gives = rw c.chunks.auto.buffer at (rw c.in-Some.is at pulled.chunk) in
+    let same = exit_is c.from_residual-in_err-map_err.result error c.from_residual-in_err-map_err.ensures.1 in
     rw (same, failed.2) (so_far_unwritten g.R.Read g.W.Write c.args.body _ _ _ _ c.requires.whole
     c.chunks.invariant.so_far (length c.args.buffer.now) _ c.chunk.new.segment _ gives c.requires.room
     pulled.moves_on.steady

@@ -39,8 +39,9 @@ returns-clause-copied g c =
 
 pub returns-in_err-body-clause-copied : goal.returns-in_err-body-clause-copied
 returns-in_err-body-clause-copied g c = λ count before old within.
-    subst (λ (d : Decoder g.row.R.Denot). GoesOnWithin g.R.Read g.W.Write count before g.P.Parser.kind (length c.args.buffer.now)
-    old c.from_residual.result (sides_of d c.segments.encoder)) {x = c.advance.new.self.decoder.now} (search rules) (
+    subst (λ (d : Decoder g.row.R.Denot). GoesOnWithin g.R.Read g.W.Write count before g.P.Parser.kind
+    (length c.args.buffer.now) old c.from_residual.result (sides_of d c.segments.encoder))
+    {x = c.advance.new.self.decoder.now} (search rules) (
     let k = g.P.Parser.kind in
     let so_far = c.segments.invariant.so_far in
     let error = c.in_err-body.field-0.0 in
@@ -52,8 +53,8 @@ returns-in_err-body-clause-copied g c = λ count before old within.
 
 pub returns-in_err-write_header-clause-copied : goal.returns-in_err-write_header-clause-copied
 returns-in_err-write_header-clause-copied g c = λ count before old within.
-    subst (λ (d : Decoder g.row.R.Denot). GoesOnWithin g.R.Read g.W.Write count before g.P.Parser.kind (length c.args.buffer.now)
-    old c.from_residual-in_err-write_header.result (sides_of d c.write_header.new.encoder))
+    subst (λ (d : Decoder g.row.R.Denot). GoesOnWithin g.R.Read g.W.Write count before g.P.Parser.kind
+    (length c.args.buffer.now) old c.from_residual-in_err-write_header.result (sides_of d c.write_header.new.encoder))
     {x = c.advance.new.self.decoder.now} (search rules) (
     let k = g.P.Parser.kind in
     let so_far = c.segments.invariant.so_far in
@@ -102,9 +103,9 @@ segments-preserved g c =
 
 pub returns-in_err-copy-clause-copied : goal.returns-in_err-copy-clause-copied
 returns-in_err-copy-clause-copied g c = λ count before old within.
-    subst (λ (d : Decoder g.row.R.Denot). GoesOnWithin g.R.Read g.W.Write count before g.P.Parser.kind (length c.args.buffer.now)
-    old c.from_residual-in_err-copy.result (sides_of d c.copy.new.writer)) {x = c.copy.new.self.decoder.now}
-    (search rules) (
+    subst (λ (d : Decoder g.row.R.Denot). GoesOnWithin g.R.Read g.W.Write count before g.P.Parser.kind
+    (length c.args.buffer.now) old c.from_residual-in_err-copy.result (sides_of d c.copy.new.writer))
+    {x = c.copy.new.self.decoder.now} (search rules) (
     let k = g.P.Parser.kind in
     let so_far = c.segments.invariant.so_far in
     let same = exit_is c.from_residual-in_err-copy.result c.in_err-copy.field-0.0 c.from_residual-in_err-copy.ensures.1 in
