@@ -27,8 +27,9 @@ announced bytes n (Some p) N h e =
 announced bytes n None N h e = tt
 
 pub returns-clause-parts : goal.returns-clause-parts
-returns-clause-parts c = joined _ _ _ _ c.split_at_checked.ensures.cases
+returns-clause-parts c = joined c.args.bytes.now _ _ _ c.split_at_checked.ensures.cases
 
 pub returns-clause-title : goal.returns-clause-title
 returns-clause-title c =
-    announced _ _ _ _ c.split_at_checked.ensures.cases (c.len.ensures _ c.row_of.ensures.affix)
+    announced c.args.bytes.now c.len.result _ _ c.split_at_checked.ensures.cases
+    (c.len.ensures _ c.row_of.ensures.affix)
