@@ -25,7 +25,7 @@ use Rattle.ciborium_ll_grammar.specs.Parts.{refused_when_strict}
 use Rattle.ciborium_ll_grammar.proofs.LongerLaws.{minor_as, taken}
 use Rattle.ciborium_ll_grammar.proofs.TitleKinds.{kind_names, kind_of}
 use Rattle.cbor_parser.specs.declared.strings.Within.TheVariants as w
-use Rattle.cbor_checker.specs.declared.plain.TheConstants.{LENS, TEXT_LENS}
+use Rattle.cbor_checker.specs.declared.plain.TheConstants.{LENS}
 use Rattle.cbor_checker.specs.Blocked.{blocked, is_single}
 use Rattle.cbor_checker.specs.Plain.{ArePlain, IsPlacedItem, IsPlainItem, IsSpan, IsValueMajor, more}
 use Rattle.cbor_checker.specs.Spots.{Spot, item_done, item_entered}
@@ -63,9 +63,9 @@ span_tells first len text_len both =
 
 -- The table has a true entry for each of the 256 first bytes.
 pub span_says : (first len text_len : ℕ) → first < 256 → len ≡ get_or LENS first 0
-    → text_len ≡ get_or TEXT_LENS first 0 → IsSpan first len text_len × ((0 < len → text_len < len) × (len ≤ 24))
+    → text_len ≡ get_or LENS (256 + first) 0 → IsSpan first len text_len × ((0 < len → text_len < len) × (len ≤ 24))
 span_says first len text_len l len_is text_len_is =
-    let passes = agree_below_at (λ (b : ℕ). span_test b (get_or LENS b 0) (get_or TEXT_LENS b 0)) (λ (b : ℕ). true)
+    let passes = agree_below_at (λ (b : ℕ). span_test b (get_or LENS b 0) (get_or LENS (256 + b) 0)) (λ (b : ℕ). true)
     256 first refl l in
     span_tells first len text_len (ap (λ (z : ℕ). span_test first z text_len) len_is
     ∙ (ap (λ (z : ℕ). span_test first (get_or LENS first 0) z) text_len_is ∙ passes))

@@ -1,6 +1,6 @@
 -- The meaning of a checker's answer for the bytes so far.
 use Rattle.std.proofs.Common.{◌≡◌, ℕ, zero, suc, ◌+◌, ◌%◌, ◌≤◌, true, List, [], ◌∷◌, ◌++◌, length, slice_index}
-use Rattle.std.proofs.Common.{refl, sym, ap, subst, ◌∙◌, arith, append-nil, length-append}
+use Rattle.std.proofs.Common.{◌⊎◌, inl, inr, Bool, false, refl, sym, ap, subst, ◌∙◌, arith, append-nil, length-append}
 use Rattle.std.proofs.lemmas.Bool.Decides.{nat_tests}
 use Rattle.ciborium_ll_grammar.specs.declared.spelling.Spelling.{Spelling}
 use Rattle.ciborium_ll_grammar.specs.Title.{affix_len}
@@ -11,8 +11,8 @@ use Rattle.cbor_checker.specs.declared.phase.Phase.TheVariants as p
 use Rattle.cbor_checker.specs.declared.phase.Fault.{Fault}
 use Rattle.cbor_checker.specs.Spots.{Spot}
 use Rattle.cbor_checker.specs.Steps.{start, with_byte, TitleStep, whole, StepIn, IsFed, fresh, more}
-use Rattle.cbor_checker.specs.Reading.{BeginsItem, GoesOn, LacksAtLeast, Tells}
-use Rattle.cbor_checker.specs.Telling.{has_left, is_due, title_due, progress_in, progress_of, EndedIn}
+use Rattle.cbor_checker.specs.Reading.{BeginsItem, GoesOn, IsMore, LacksAtLeast, Tells}
+use Rattle.cbor_checker.specs.Telling.{IsAnswer, has_left, is_due, title_due, progress_in, progress_of, EndedIn}
 use Rattle.cbor_checker.specs.declared.progress.Progress.{Progress}
 use Rattle.cbor_checker.specs.declared.progress.Progress.TheVariants as r
 use Rattle.cbor_checker.proofs.KeptLaws.{entered_kept, bytes_kept, left_kept}
@@ -131,5 +131,30 @@ never_long p.Ended spot is = cc
 never_long (p.Faulted fault) spot is = cc
 
 -- If the answer is `More`, more bytes are due by the phase.
-pub more_due : (phase : Phase) (spot : Spot) (due : ℕ) → r.More due ≡ progress_in phase spot → is_due phase ≡ true
-more_due phase spot due e = grind (arith, nat_tests)
+pub more_due : (phase : Phase) (spot : Spot) → IsMore (progress_in phase spot) → is_due phase ≡ true
+more_due p.Title spot is = refl
+more_due (p.Bytes left) spot is = refl
+more_due (p.Text left state) spot is = refl
+more_due p.Ended spot is = absurd is
+more_due (p.Faulted fault) spot is = absurd is
+
+-- Bytes are left where more are due, or not.
+pub is_long : (left due : Bool) → (left ≡ true × due ≡ true) ⊎ (left ≡ true → due ≡ true → ⊥)
+is_long true true = inl (refl, refl)
+is_long true false = inr (λ a b. let no = b in cc)
+is_long false due = inr (λ a b. let no = a in cc)
+
+-- If more bytes are due by the phase, the answer is `More`.
+pub due_more : (phase : Phase) (spot : Spot) → is_due phase ≡ true → IsMore (progress_in phase spot)
+due_more p.Title spot due = tt
+due_more (p.Bytes left) spot due = tt
+due_more (p.Text left state) spot due = tt
+due_more p.Ended spot due = absurd cc
+due_more (p.Faulted fault) spot due = absurd cc
+
+-- An answer that is the answer of the spot is an answer there.
+pub answered : (progress : Progress) (spot : Spot) → progress ≡ progress_of spot → IsAnswer progress spot
+answered (r.More due) spot e = e
+answered (r.Ended len) spot e = e
+answered (r.Fault fault) spot e = e
+answered r.TooLong spot e = absurd (never_long spot.phase spot (sym e))

@@ -16,8 +16,11 @@ use ciborium_ll_text::state::State;
 
 /// The length of an item in bytes, title included, by its first byte, with two lines for each major type. 0 says
 /// nothing.
+///
+/// At 256 more than the first byte stands how many of these bytes are the body of a text, which must be checked. It is
+/// 0 for any other item. Both stand in one table, so that a loop needs one address for them.
 #[rattlefmt::skip]
-static LENS: [u8; 256] = [
+static LENS: [u8; 512] = [
     // unsigned integers
     1, 1, 1, 1, 1, 1, 1, 1, 1, 1, 1, 1, 1, 1, 1, 1,
     1, 1, 1, 1, 1, 1, 1, 1, 2, 3, 5, 9, 0, 0, 0, 0,
@@ -42,12 +45,7 @@ static LENS: [u8; 256] = [
     // simple values and floats
     1, 1, 1, 1, 1, 1, 1, 1, 1, 1, 1, 1, 1, 1, 1, 1,
     1, 1, 1, 1, 1, 1, 1, 1, 2, 3, 5, 9, 0, 0, 0, 0,
-];
-
-/// How many of these bytes are the body of a text, which must be checked. It is 0 for any other item.
-#[rattlefmt::skip]
-static TEXT_LENS: [u8; 256] = [
-    // unsigned integers
+    // bodies: unsigned integers
     0, 0, 0, 0, 0, 0, 0, 0, 0, 0, 0, 0, 0, 0, 0, 0,
     0, 0, 0, 0, 0, 0, 0, 0, 0, 0, 0, 0, 0, 0, 0, 0,
     // negative integers
@@ -94,7 +92,7 @@ fn span_of(first: u8) -> Span
 {
     Span {
         len: usize::from(LENS[first as usize]),
-        text_len: usize::from(TEXT_LENS[first as usize]),
+        text_len: usize::from(LENS[256 + first as usize]),
     }
 }
 
@@ -234,7 +232,8 @@ fn is_span_there(bytes: &[u8], at: usize, span: &Span) -> bool
     if bytes.len() - at > LONGEST_SPAN && span.text_len <= SHORT {
         return is_part_ascii(bytes, at + 1, 0, span.text_len);
     }
-    span.len <= bytes.len() - at && is_ascii_from(bytes, at + 1, span.text_len)
+    span.len <= bytes.len() - at
+        && (span.text_len == 0 || is_ascii_from(bytes, at + 1, span.text_len))
 }
 
 /// Returns the length of the item from `at` on, title included, if an item is due and all of it is there: a number, a
@@ -311,6 +310,10 @@ fn ascii_run(bytes: &[u8], most: usize, spelling: Spelling, offset: usize, place
     ensures plain { (tags : Bool)
         → ArePlain spelling tags offset place.old (most - result.left) place.new (take result.len bytes.now) }
 {
+    // Both loops begin with these tests, so they stand here once.
+    if most == 0 || bytes.is_empty() {
+        return Run { len: 0, left: most };
+    }
     match spelling {
         Spelling::Any => run_of(bytes, most, Spelling::Any, offset, place),
         Spelling::Shortest => run_of(bytes, most, Spelling::Shortest, offset, place),

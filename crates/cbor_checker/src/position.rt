@@ -1,7 +1,8 @@
 //! A checker's state without the numbers of its nests.
 
 ghost use Rattle.ciborium_ll_grammar.specs.declared.spelling.Spelling.{Spelling};
-ghost use Rattle.std.specs.Prelude.{◌≡◌, ◌+◌, ◌<◌, ◌≤◌, ◌%◌, length, slice_index, true, false, IfSome, IsSome, IsSomeAnd};
+ghost use Rattle.std.specs.Prelude.{◌≡◌, ◌+◌, ◌<◌, ◌≤◌, ◌%◌, length, slice_index, true, false};
+ghost use Rattle.std.specs.Prelude.{IfSome, IsSome, IsSomeAnd};
 ghost use Rattle.ciborium_ll_grammar.specs.Title.{affix_len};
 ghost use Rattle.cbor_parser.specs.Strings.{open_count};
 ghost use Rattle.cbor_checker.specs.Snapshots.{levels_in};
@@ -11,8 +12,8 @@ ghost use Rattle.ciborium_ll_grammar.specs.declared.limits.TheConstants.{MOST_LE
 use crate::levels::{Levels, are_levels};
 use crate::phase::Phase;
 use crate::progress::Progress;
-use crate::snapshot::{Snapshot, is_state};
-use crate::tell::answer;
+use crate::snapshot::{Snapshot, has_left, is_bounded};
+use crate::tell::piece_answer;
 use crate::walk::Walk;
 use cbor_parser::few::Few;
 use cbor_parser::spelling_of;
@@ -82,14 +83,22 @@ impl Position {
         ensures found { (spot : Spot) → Holds snapshot.now spot
             → IsSomeAnd result (λ position. spot_in position snapshot.now.kinds snapshot.now.counts ≡ spot) }
     {
-        let phase = Phase::of(snapshot.phase, snapshot.number as usize, snapshot.text)?;
-        let within = Within::of(snapshot.strings, snapshot.more as usize)?;
-        let spelling = spelling_of(snapshot.strict)?;
-        if !is_state(snapshot, phase, within) {
+        if !is_bounded(snapshot) {
             return None;
         }
         let nests = usize::from(snapshot.nests);
         if !are_levels(nests, &snapshot.kinds, &snapshot.counts) {
+            return None;
+        }
+        let spelling = spelling_of(snapshot.strict)?;
+        // Each test of a kind follows the match on its number, so that most kinds need none. What has the most parts
+        // comes last.
+        let phase = Phase::of(snapshot.phase, snapshot.number as usize, snapshot.text)?;
+        if !has_left(phase) {
+            return None;
+        }
+        let within = Within::of(snapshot.strings, snapshot.more as usize)?;
+        if !within.is_counted(snapshot.offset as usize) {
             return None;
         }
         Some(Position {
@@ -164,9 +173,6 @@ impl Position {
             → IsFed allowed depth fed (spot_in self.now kinds counts) → Tells allowed depth fed result }
         ensures answers { (kinds counts : List ℕ) → IsAnswer result (spot_in self.now kinds counts) }
     {
-        match answer(self.phase, &self.front, self.offset) {
-            Progress::More(_) if left => Progress::TooLong,
-            progress => progress,
-        }
+        piece_answer(self.phase, &self.front, self.offset, left)
     }
 }

@@ -3,13 +3,15 @@
 ghost use Rattle.ciborium_ll_grammar.specs.declared.spelling.Spelling.{Spelling};
 ghost use Rattle.std.specs.Prelude.{◌≡◌, ◌<◌, ◌≤◌, length, true, false, IfNone, IfSome, IsSome, IsSomeAnd};
 ghost use Rattle.std.specs.Option.{option_map};
+ghost use Rattle.cbor_parser.specs.Strings.{open_count};
+ghost use Rattle.cbor_parser.specs.declared.strings.Within.{Within as AnyWithin};
+ghost use Rattle.cbor_checker.specs.declared.phase.Phase.{Phase as AnyPhase};
 ghost use Rattle.cbor_checker.specs.Snapshots.{IsState};
 ghost use Rattle.cbor_checker.specs.Telling.{has_left};
 
 use crate::phase::Phase;
 use crate::position::Position;
 use crate::progress::Feed;
-use cbor_parser::strings::Within;
 use ciborium_ll_grammar::limits::{LONGEST_TITLE, MOST_LEVELS};
 use ciborium_ll_grammar::titles::are_begun;
 
@@ -119,7 +121,8 @@ impl Snapshot {
 }
 
 /// Returns `false` for a body without bytes left.
-fn has_left(phase: Phase) -> bool
+#[inline(always)]
+pub(crate) fn has_left(phase: Phase) -> bool
     ensures { result ≡ has_left phase }
 {
     match phase {
@@ -128,24 +131,27 @@ fn has_left(phase: Phase) -> bool
     }
 }
 
-/// Returns whether the numbers are those of a state, with this phase and these open strings.
-pub(crate) fn is_state(snapshot: &Snapshot, phase: Phase, within: Within) -> bool
-    ensures yes { result ≡ true → IsState snapshot.now phase within }
-    ensures no { IsState snapshot.now phase within → result ≡ true }
+/// Returns whether the numbers of levels and of a title are those of a state, whatever its phase and its open strings
+/// are.
+#[inline(always)]
+pub(crate) fn is_bounded(snapshot: &Snapshot) -> bool
+    ensures yes { result ≡ true → (phase : AnyPhase) (within : AnyWithin) → has_left phase ≡ true
+        → open_count within ≤ snapshot.now.offset → IsState snapshot.now phase within }
+    ensures no { (phase : AnyPhase) (within : AnyWithin) → IsState snapshot.now phase within → result ≡ true }
 {
+    let depth = snapshot.depth as usize;
+    if depth > MOST_LEVELS {
+        return false;
+    }
+    if usize::from(snapshot.nests) > MOST_LEVELS - depth {
+        return false;
+    }
     let title_len = usize::from(snapshot.title_len);
-    let nests = usize::from(snapshot.nests);
+    if title_len == 0 {
+        return true;
+    }
     if title_len > LONGEST_TITLE {
         return false;
     }
-    if nests > MOST_LEVELS {
-        return false;
-    }
-    if snapshot.depth as usize > MOST_LEVELS - nests {
-        return false;
-    }
-    if !within.is_counted(snapshot.offset as usize) {
-        return false;
-    }
-    has_left(phase) && are_begun(&snapshot.title[..title_len])
+    are_begun(&snapshot.title[..title_len])
 }

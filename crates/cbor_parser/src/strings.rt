@@ -3,6 +3,7 @@
 ghost use Rattle.std.specs.Prelude.{◌≡◌, ◌<◌, ◌≤◌, ◌+◌, IfSome, Some, true};
 ghost use Rattle.cbor_parser.specs.Strings.{blocks, closed, open_count, piece_within, within_after, within_in};
 ghost use Rattle.cbor_parser.specs.Strings.{within_open};
+ghost use Rattle.cbor_parser.specs.declared.strings.Within.TheVariants as w;
 
 use ciborium_ll_grammar::hdr::Header;
 use ciborium_ll_grammar::hdr::table::TitleKind;
@@ -77,6 +78,17 @@ fn within_open(spelling: Spelling, kind: StringKind, more: usize, header: Header
     }
 }
 
+/// Returns the numbers of `more + 1` open strings of a kind, apart from the path without any.
+#[inline(never)]
+fn open_numbers(kind: StringKind, more: usize) -> (u8, usize)
+    ensures { within_in result.0 result.1 ≡ Some (w.Open kind more) }
+{
+    match kind {
+        StringKind::Bytes => (1, more),
+        StringKind::Text => (2, more),
+    }
+}
+
 impl Within {
     /// Returns the strings that are open after a title of this header, or `None` if it may not stand here. If the
     /// spelling is `Shortest`, no string of indefinite length may stand within another one.
@@ -120,8 +132,7 @@ impl Within {
     {
         match self {
             Within::Nothing => (0, 0),
-            Within::Open(StringKind::Bytes, more) => (1, more),
-            Within::Open(StringKind::Text, more) => (2, more),
+            Within::Open(kind, more) => open_numbers(kind, more),
         }
     }
 

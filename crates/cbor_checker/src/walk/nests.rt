@@ -67,8 +67,8 @@ impl Walk<'_> {
         ensures clear { result.1 ≡ true → length self.new.front ≡ 0 }
         ensures lent { AreLent self.old.levels self.new.levels }
     {
-        // A nest is no plain item.
-        if nest_of(bytes[0]).is_some() {
+        // Without levels there is no nest to fill, and a nest is no plain item.
+        if self.levels.is_empty() || nest_of(bytes[0]).is_some() {
             return (0, true);
         }
         let Some(level) = self.levels.innermost() else {

@@ -9,8 +9,8 @@ use Rattle.cbor_checker.specs.Walking.{levels_at, spot_at}
 use Rattle.cbor_checker.proofs.RunLaws.{run_ends, run_goes}
 use Rattle.cbor_checker.proofs.walk.Walk.plain_items.Goals as goal
 
-pub returns-then-is_some-clause-leads : goal.returns-then-is_some-clause-leads
-returns-then-is_some-clause-leads c = stay
+pub returns-then-is_empty-clause-leads : goal.returns-then-is_empty-clause-leads
+returns-then-is_empty-clause-leads c = stay
 
 pub returns-in_default-clause-leads : goal.returns-in_default-clause-leads
 returns-in_default-clause-leads c =
