@@ -52,7 +52,7 @@ const SHIFTS: [u32; 32] = [
 ];
 
 /// Returns the number in the affix at the beginning of the eight bytes of `word` (RFC 7049, 2.1). A table has the affix's
-/// length. Without an affix the call returns `word`.
+/// length. Only the minors from 24 to 27 have an affix.
 ///
 /// After `19`, the eight bytes `01 00 20 20 20 20 20 20` give 256.
 #[inline(always)]
