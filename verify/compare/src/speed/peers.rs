@@ -17,7 +17,7 @@ const LEAST: f64 = 0.1;
 const WHOLE: usize = 1 << 30;
 
 /// A timed run of a program that is compiled or read while it runs takes at least this many seconds.
-const LEAST_WARM: f64 = 2.0;
+const LEAST_WARM: f64 = 0.5;
 
 /// A timed run of a program in Java has at least this many rounds.
 const JAVA_ROUNDS: usize = 64;
