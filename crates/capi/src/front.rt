@@ -1,5 +1,5 @@
 //! The title at the beginning of at least nine bytes. For a title with an affix, no branch depends on the width or the
-//! kind: tables have them.
+//! kind.
 
 ghost use Rattle.std.specs.Prelude.{◌≡◌, ◌%◌, ◌<◌, ◌≤◌, IfNone, IfSome, MatchOption};
 ghost use Rattle.ciborium_ll_grammar.specs.Title.{IsRefused};

@@ -80,12 +80,7 @@ all_taken n m within none due =
 
 -- ---- the answer of a spot
 
--- More bytes are due by the phase exactly if the answer says so.
-more_is_due : (phase : Phase) (spot : Spot) → IsMore (progress_in phase spot) → is_due phase ≡ true
-more_is_due p.Ended spot is = absurd is
-more_is_due (p.Faulted fault) spot is = absurd is
-more_is_due phase spot is = refl
-
+-- No more bytes are due by the phase if the answer says so.
 none_is_due : (phase : Phase) (spot : Spot) → (IsMore (progress_in phase spot) → ⊥) → is_due phase ≡ false
 none_is_due p.Title spot none = absurd (none tt)
 none_is_due (p.Bytes left) spot none = absurd (none tt)

@@ -8,7 +8,7 @@ use Rattle.cbor_checker.specs.declared.phase.Phase.TheVariants as p
 use Rattle.cbor_parser.specs.declared.strings.Within.TheVariants as w
 use Rattle.cbor_nests.specs.Remaining.{next}
 use Rattle.cbor_checker.specs.Stack.{innermost, others}
-use Rattle.cbor_checker.specs.Plain.{ArePlain, counted_behind, lowered, more, none, pairs_of, passed, placed}
+use Rattle.cbor_checker.specs.Plain.{ArePlain, counted_behind, lowered, more, none, passed, placed}
 use Rattle.cbor_checker.specs.Plain.{IsNestTitle}
 use Rattle.cbor_checker.specs.Spots.{Spot, item_done, settled, item_due, item_entered, nested}
 use Rattle.cbor_checker.specs.Steps.{Leads, stay}
@@ -23,9 +23,6 @@ use Rattle.cbor_nests.specs.declared.remaining.Remaining.TheVariants as l
 use Rattle.cbor_checker.proofs.PlainLaws.{one_taken}
 
 -- ---- the nest with fewer items
-
-next_pairs : (n : ℕ) → next (pairs_of (suc n)) ≡ Some (pairs_of n)
-next_pairs n = grind (arith, nat_tests)
 
 next_lowered : (level : Remaining) (count n : ℕ) → counted_behind level ≡ Some count
     → next (lowered (suc n) level) ≡ Some (lowered n level)

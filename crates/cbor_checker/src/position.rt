@@ -91,8 +91,8 @@ impl Position {
             return None;
         }
         let spelling = spelling_of(snapshot.strict)?;
-        // Each test of a kind follows the match on its number, so that most kinds need none. What has the most parts
-        // comes last.
+        // Each test of a kind follows the match on its number, so that most kinds need none. The value with the most
+        // parts comes last.
         let phase = Phase::of(snapshot.phase, snapshot.number as usize, snapshot.text)?;
         if !has_left(phase) {
             return None;

@@ -1,9 +1,8 @@
 -- Places within nests and strings, and the strings that are held in memory.
-use Rattle.std.proofs.Common.{◌≡◌, ℕ, zero, suc, ◌-◌, ◌&&◌, nat_le, nat_lt, Some, refl, arith}
+use Rattle.std.proofs.Common.{◌≡◌, ℕ, zero, suc, ◌-◌, refl, arith}
 use Rattle.ciborium_ll.specs.Types.Header.{Header}
-use Rattle.ciborium_ll.specs.Types.Header.TheVariants as h
 use Rattle.cbor_diag.specs.declared.layout.Line.{Line}
-use Rattle.cbor_diag.specs.Places.{if_any, is_held, line_within, place_of, place_within}
+use Rattle.cbor_diag.specs.Places.{if_any, line_within, place_of, place_within}
 
 one_less : (strings levels : ℕ) → if_any strings (levels - 1) ≡ if_any strings levels - 1
 one_less zero levels = omega arith
@@ -13,10 +12,3 @@ one_less (suc strings) levels = refl
 pub within_place : (header : Header) (line inner : Line) (strings levels room : ℕ) → inner ≡ line_within header line
     → place_of inner strings (levels - 1) room ≡ place_within header (place_of line strings levels room)
 within_place header line inner strings levels room is = rw (is, one_less strings levels) refl
-
--- A string is held if it is asked for, if a string may be shown as an item, and if a level and room are left.
-pub held_is : (line : Line) (strings levels room len : ℕ)
-    → is_held (place_of line strings levels room) (h.Bytes (Some len))
-    ≡ (nat_lt 0 strings && (line.is_asked && (nat_lt 0 levels && nat_le len room)))
-held_is line zero levels room len = refl
-held_is line (suc strings) levels room len = refl

@@ -11,8 +11,7 @@ use Rattle.ciborium_ll.specs.Encoding.{WritesAll, WritesBytes, WritesFront}
 use Rattle.ciborium_ll.proofs.EncodingLaws.{WritesBytes-stopped, WritesBytes-then}
 use Rattle.cbor_floats.specs.Floats.{IsNumberText, float_value}
 use Rattle.cbor_diag.specs.Writing.{ShowsMarked, ShowsOne}
-use Rattle.cbor_json.specs.declared.role.Role.{Role}
-use Rattle.cbor_json.specs.Roles.{IsInteger, IsScalar, has_json}
+use Rattle.cbor_json.specs.Roles.{IsInteger, IsScalar}
 use Rattle.cbor_json.specs.Scalars.{IsFloatJson, IsScalarJson, IsScalarText, IsValueJson}
 
 -- ---- floats
@@ -45,11 +44,6 @@ pub scalar_of : (header : Header) → ((number : ℕ) × (header ≡ h.Positive 
     ⊎ (((number : ℕ) × (header ≡ h.Negative number))
     ⊎ (((float : Raw) × (header ≡ h.Float float)) ⊎ ((number : ℕ) × (header ≡ h.Simple number)))) → IsScalar header
 scalar_of header is = grind arith
-
--- A key that is a number or a simple value and has JSON is an integer.
-pub key_integer : (role : Role) (header : Header) → IsScalar header → has_json role header ≡ true
-    → role.is_key ≡ true → IsInteger header
-key_integer role header is has key = grind arith
 
 -- ---- keys
 

@@ -1,5 +1,5 @@
 -- The write of a string: the text before its content, the content, and the text after it.
-use Rattle.std.proofs.Common.{◌≡◌, ◌∙◌, ℕ, List, [], ◌∷◌, ◌++◌, Option, Result, Ok, Err, refl, sym, ap, append_assoc}
+use Rattle.std.proofs.Common.{◌≡◌, ◌∙◌, ℕ, List, [], ◌∷◌, ◌++◌, Option, Result, Ok, Err, sym, ap, append_assoc}
 use Rattle.ciborium_ll.specs.Types.Read.{Ghosts as Reader}
 use Rattle.ciborium_ll.specs.Types.Write.{Ghosts as Writer}
 use Rattle.ciborium_ll.specs.Types.Decoder.{Decoder}
@@ -8,7 +8,7 @@ use Rattle.ciborium_ll.specs.Types.RecodeError.TheVariants as r
 use Rattle.ciborium_ll.specs.Strings.{Kind, Bytes, Text, IsWritable}
 use Rattle.ciborium_ll.specs.Elements.{AreWritable}
 use Rattle.ciborium_ll.specs.Text.{joined}
-use Rattle.ciborium_ll.specs.Encoding.{WritesAll, WritesBytes, WritesFront}
+use Rattle.ciborium_ll.specs.Encoding.{WritesAll, WritesBytes}
 use Rattle.ciborium_ll.specs.Sides.{Sides, sides}
 use Rattle.ciborium_ll_decoder.proofs.BodyLaws.{writable_nil}
 use Rattle.ciborium_ll_text.proofs.TextLaws.{IsCharacters-append}
@@ -24,7 +24,7 @@ use Rattle.cbor_json.specs.declared.JsonError.{JsonError}
 use Rattle.cbor_json.specs.declared.JsonError.TheVariants as j
 use Rattle.cbor_json.specs.Reading.{said_of}
 use Rattle.cbor_json.specs.StringTexts.{IsQuotesOf, quoted_json}
-use Rattle.cbor_json.specs.StringWrites.{CopiesQuoted, WritesString, at_end, at_opening, at_title, in_body, within}
+use Rattle.cbor_json.specs.StringWrites.{CopiesQuoted, WritesString, at_end, at_title, in_body, within}
 
 -- ---- texts
 
@@ -109,10 +109,3 @@ module _ {R E W F : Type 0} {source : Reader R E} {sink : Writer W F} (kind : Ki
       string_closed (Err fault) result same wrote = rw same (at_end copied.0.reads
           (rw (string_parts kind quotes opening bytes is sound) at
           (wrote_first (wrote_both opens copied.0.written) fault (rw copied.1 at wrote))))
-
--- If the writer fails at the opening, nothing was read.
-pub string_unopened : {R E W F : Type 0} (source : Reader R E) (sink : Writer W F) (kind : Kind) (quotes : Quotes)
-    (len : Option ℕ) (opening : List ℕ) (room : ℕ) (old : Decoder R) {before new : W} {error : JsonError E F}
-    → ((fault : F) × (error ≡ j.Write fault) × WritesFront sink before opening new)
-    → WritesString source sink kind quotes len opening room (sides old before) (Err error) (sides old new)
-string_unopened source sink kind quotes len opening room old (fault, is, stopped) = rw is (at_opening refl stopped)

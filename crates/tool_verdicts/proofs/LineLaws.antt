@@ -1,5 +1,5 @@
 -- The reads and writes of the loop over the items of a sequence, and of one item in either form.
-use Rattle.std.proofs.Common.{◌≡◌, ℕ, ◌+◌, Option, Result, Ok, Err, ◌∙◌, ap, refl, sym, subst}
+use Rattle.std.proofs.Common.{◌≡◌, ℕ, ◌+◌, Option, Result, Ok, Err, ◌∙◌, ap, sym, subst}
 use Rattle.ciborium_ll.specs.Types.Read.{Ghosts}
 use Rattle.ciborium_ll.specs.Types.Write.{Ghosts as Sink}
 use Rattle.ciborium_ll.specs.Types.Error.{Error}
@@ -8,44 +8,16 @@ use Rattle.ciborium_ll.specs.Decoding.{DecoderPullAnswer}
 use Rattle.ciborium_ll.specs.Sides.{Sides, sides}
 use Rattle.ciborium_ll.specs.Types.Decoder.{Decoder}
 use Rattle.cbor_skip.specs.Skipping.{ReadsItem, SkipsItem}
-use Rattle.cbor_diag.specs.declared.DiagError.{DiagError}
-use Rattle.cbor_diag.specs.declared.DiagError.TheVariants as d
-use Rattle.cbor_diag.specs.declared.layout.Style.{Style}
-use Rattle.cbor_diag.specs.Showing.{ReadsShown}
-use Rattle.cbor_embedded.specs.declared.Embedded.{Embedded}
-use Rattle.cbor_embedded.specs.declared.Embedded.TheVariants as b
 use Rattle.cbor_dump.specs.Sequences.{IsEnd, ReadsItems}
 use Rattle.cbor_json.specs.declared.JsonError.{JsonError}
 use Rattle.cbor_json.specs.declared.JsonError.TheVariants as j
-use Rattle.cbor_json.specs.Reading.{CountsWritten, OnReading, ReadsWritten}
+use Rattle.cbor_json.specs.Reading.{CountsWritten, OnReading}
 use Rattle.tool_verdicts.specs.Parts.{IsBelow}
 use Rattle.tool_verdicts.specs.Lines.{AreLines, CountsLines, EndsLines, FollowsItem, IsEndOfItems, LineStops, LineWritten}
-use Rattle.tool_verdicts.specs.Lines.{OnlyWritten, ReadsLines, ShowsItemIn, WritesItemIn, WritesLines, json_answer}
+use Rattle.tool_verdicts.specs.Lines.{OnlyWritten, ReadsLines, WritesLines}
 use Rattle.tool_verdicts.specs.declared.items.Ending.{Ending}
 use Rattle.tool_verdicts.specs.declared.items.Ending.TheVariants as g
 use Rattle.tool_verdicts.specs.declared.items.Form.{Form}
-use Rattle.tool_verdicts.specs.declared.items.Form.TheVariants as f
-
--- A show of an item reads as a write of an item, by the same answer.
-pub show_reads : {R E F : Type 0} (source : Ghosts R E) (depth : ℕ) (old new : Decoder R)
-    (answer : Result (Unit {0}) (DiagError E F)) → ReadsShown source depth old answer new
-    → ReadsWritten source depth old (json_answer answer) new
-show_reads source depth old new (Ok done) shown =
-    record { reads = shown.reads; failures = shown.failures; moves_on = shown.moves_on }
-show_reads source depth old new (Err (d.Read error)) shown =
-    record { reads = shown.reads; failures = shown.failures; moves_on = shown.moves_on }
-show_reads source depth old new (Err (d.Write fault)) shown =
-    record { reads = shown.reads; failures = shown.failures; moves_on = shown.moves_on }
-
--- A show of an item writes it in notation, by the same answer.
-pub show_writes : {I G R E W F : Type 0} (memory : Ghosts I G) (source : Ghosts R E) (sink : Sink W F) (style : Style)
-    (embedded : Embedded) (depth : ℕ) (old new : Sides R W) (answer : Result (Unit {0}) (DiagError E F))
-    → ShowsItemIn memory source sink style embedded depth old answer new
-    → WritesItemIn memory source sink (f.Notation style embedded) depth old (json_answer answer) new
-show_writes memory source sink style b.Nowhere depth old new (Ok done) shown = shown
-show_writes memory source sink style b.Tagged depth old new (Ok done) shown = shown
-show_writes memory source sink style b.Everywhere depth old new (Ok done) shown = shown
-show_writes memory source sink style embedded depth old new (Err error) shown = (error, refl, shown)
 
 module _ {R E F : Type 0} (source : Ghosts R E) where
   -- After whole items the write of one more item ends as its error says.
