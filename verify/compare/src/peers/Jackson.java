@@ -60,6 +60,9 @@ final class Jackson {
     }
 
     public static void main(String[] words) throws IOException {
+        if (!words[0].equals("check") && !words[0].equals("copy")) {
+            System.exit(2);
+        }
         byte[] data = System.in.readAllBytes();
         sum(words[0], data, Math.min(MOST_ROUNDS, 1 + WARM / Math.max(1, data.length)));
         System.out.println(sum(words[0], data, Long.parseLong(words[3])));

@@ -16,6 +16,8 @@ import cbor2
 def main() -> None:
     """Does the work that the words ask for."""
     work, rounds = sys.argv[1], int(sys.argv[4])
+    if work not in ("check", "copy"):
+        sys.exit(2)
     data = sys.stdin.buffer.read()
     total = 0
     for _ in range(rounds):

@@ -10,6 +10,9 @@ const fs = require('fs')
 const cbor = require('cbor')
 
 const [work, , , rounds] = process.argv.slice(2)
+if (work !== 'check' && work !== 'copy') {
+  process.exit(2)
+}
 const data = fs.readFileSync(0)
 const options = { highWaterMark: 2 * data.length }
 let total = 0
