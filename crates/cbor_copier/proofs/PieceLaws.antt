@@ -1,11 +1,13 @@
 -- Pieces of an open string that a copy keeps as they are.
 use Rattle.std.proofs.Common.{◌≡◌, ℕ, zero, suc, ◌+◌, ◌-◌, ◌/◌, ◌%◌, ◌<◌, ◌≤◌, List, [], ◌∷◌, ◌++◌, length, take, drop}
-use Rattle.std.proofs.Common.{slice_index, refl, sym, ◌∙◌, arith, append_assoc, append-nil, length-append}
+use Rattle.std.proofs.Common.{slice_index, refl, subst, sym, ap, ◌∙◌, ◌*◌, arith, append_assoc, append-nil}
+use Rattle.std.proofs.Common.{length-append}
+use Rattle.std.proofs.lemmas.Bool.Decides.{nat_tests}
 use Rattle.std.proofs.lemmas.List.{length-take-le}
-use Rattle.std.proofs.Math.Seq.{take-add}
+use Rattle.std.proofs.Math.Seq.{take-add, take-append_seam}
 use Rattle.ciborium_ll_grammar.specs.declared.spelling.Spelling.{Spelling}
 use Rattle.ciborium_ll_grammar.specs.Title.{ByteString, IsTitle, Major, Small, TextString, major_code, numbered_header}
-use Rattle.ciborium_ll_grammar.specs.Title.{shortest_title}
+use Rattle.ciborium_ll_grammar.specs.Title.{Eight, Four, One, Size, Two, least_size, numbered_title, shortest_title}
 use Rattle.ciborium_ll_text.specs.Text.{IsCharacters}
 use Rattle.ciborium_ll_text.proofs.Lists.{Below, below_rest, below_take}
 use Rattle.cbor_copier.specs.declared.phase.Phase.TheVariants as p
@@ -13,10 +15,10 @@ use Rattle.cbor_parser.specs.declared.strings.StringKind.{StringKind}
 use Rattle.cbor_parser.specs.declared.strings.StringKind.TheVariants as k
 use Rattle.cbor_parser.specs.declared.strings.Within.{Within}
 use Rattle.cbor_parser.specs.declared.strings.Within.TheVariants as w
-use Rattle.cbor_copier.specs.Plain.{ArePieces, AreWithin, inside}
+use Rattle.cbor_copier.specs.Plain.{ArePieces, AreWithin, BeginsPiece, inside, string_of}
 use Rattle.cbor_copier.specs.Spots.{Spot, IsPutOut, at_phase, body_due, body_phase, putting}
 use Rattle.cbor_copier.specs.Steps.{IsFed, counted_by, more, titled, whole, with_byte}
-use Rattle.cbor_copier.proofs.PlainLaws.{small_title, strictly_taken, string_of, string_strict}
+use Rattle.cbor_copier.proofs.PlainLaws.{small_title, strictly_taken, string_strict}
 use Rattle.cbor_copier.proofs.RunLaws.{body_given}
 use Rattle.cbor_copier.proofs.StepLaws.{fed_allowed}
 
@@ -97,6 +99,55 @@ module _ (xs : List ℕ) (len : ℕ) (below : Below xs) (some : 0 < length xs)
   pub text_piece : slice_index xs 0 / 32 ≡ 3 → IsCharacters (take (len - 1) (drop 1 xs))
       → ArePieces k.Text 0 (take len xs)
   text_piece three text = piece_of k.Text xs len below some long small le TextString (sym three) (λ n. refl) text
+
+-- ---- bytes that begin with no piece
+
+-- The major type of a string of this kind.
+abbrev pub code_of : StringKind → ℕ
+code_of k.Bytes = 2
+code_of k.Text = 3
+
+-- The shortest title of a number has one byte exactly if the number is below 24.
+one_byte : (major : Major) (b n : ℕ) (size : Size) → b ∷ [] ≡ numbered_title major size n → size ≡ least_size n
+    → (b ≡ 32 * major_code major + n) × (n < 24)
+one_byte major b n Small e least = (grind arith, grind (arith, nat_tests))
+one_byte major b n One e least = absurd (omega (arith, ap (length {A = ℕ}) e))
+one_byte major b n Two e least = absurd (omega (arith, ap (length {A = ℕ}) e))
+one_byte major b n Four e least = absurd (omega (arith, ap (length {A = ℕ}) e))
+one_byte major b n Eight e least = absurd (omega (arith, ap (length {A = ℕ}) e))
+
+string_told : (kind : StringKind) (b n : ℕ) → IsTitle (b ∷ []) (string_of kind n)
+    → (b ≡ 32 * code_of kind + n) × (n < 24)
+string_told k.Bytes b n is = one_byte ByteString b n (least_size n) (string_strict k.Bytes n b is).shortest refl
+string_told k.Text b n is = one_byte TextString b n (least_size n) (string_strict k.Text n b is).shortest refl
+
+-- The parts of a piece, in the bytes that it begins.
+pub record Begun (kind : StringKind) (xs : List ℕ) : Type 0 where
+  pub long : slice_index xs 0 % 32 < length xs
+  pub small : slice_index xs 0 % 32 < 24
+  pub major : slice_index xs 0 / 32 ≡ code_of kind
+  pub whole : IsPutOut kind (take (slice_index xs 0 % 32) (drop 1 xs))
+
+begun_of : (kind : StringKind) (b : ℕ) (body rest : List ℕ) → IsTitle (b ∷ []) (string_of kind (length body))
+    → IsPutOut kind body → Begun kind (b ∷ body ++ rest)
+begun_of kind b body rest is put =
+    let told = string_told kind b (length body) is in
+    let n : b % 32 ≡ length body = omega (arith, told.0, told.1) in
+    record {
+      long = omega (arith, n, length-append body rest);
+      small = omega (arith, n, told.1);
+      major = omega (arith, told.0, told.1);
+      whole = subst (IsPutOut kind) (sym (ap (λ (z : ℕ). take z (body ++ rest)) n ∙ take-append_seam body rest)) put;
+    }
+
+-- Bytes that begin with a piece have its parts.
+pub begun : (kind : StringKind) (xs : List ℕ) → BeginsPiece kind xs → Begun kind xs
+begun kind xs begins =
+    rw begins.is (begun_of kind begins.first begins.body begins.rest begins.title begins.whole)
+
+-- No bytes begin with no piece.
+pub none_begun : (kind : StringKind) → BeginsPiece kind [] → ⊥
+none_begun kind begins = absurd (omega (arith, ap (length {A = ℕ}) begins.is))
 
 -- ---- pieces one after another
 

@@ -34,14 +34,14 @@ use Rattle.ciborium_ll_text.specs.declared.state.State.TheVariants as s
 use Rattle.ciborium_ll_text.specs.States.{after}
 use Rattle.ciborium_ll_text.specs.Text.{IsCharacters}
 use Rattle.ciborium_ll_text.proofs.Lists.{Below, below_rest, below_take}
-use Rattle.ciborium_ll_text.proofs.StateLaws.{ascii_stays, text_from}
+use Rattle.ciborium_ll_text.proofs.StateLaws.{ascii_stays, text_ends, text_from}
 use Rattle.cbor_copier.specs.declared.phase.Phase.{Phase}
 use Rattle.cbor_copier.specs.declared.phase.Phase.TheVariants as p
 use Rattle.cbor_parser.specs.declared.strings.StringKind.{StringKind}
 use Rattle.cbor_parser.specs.declared.strings.StringKind.TheVariants as k
 use Rattle.cbor_parser.specs.declared.strings.Within.TheVariants as w
 use Rattle.cbor_copier.specs.declared.plain.TheConstants.{LENS}
-use Rattle.cbor_copier.specs.Plain.{AreKept, IsKept, IsLen, StaysShort, bare, one, more}
+use Rattle.cbor_copier.specs.Plain.{AreKept, IsKept, IsLen, StaysShort, bare, one, more, string_of}
 use Rattle.cbor_copier.specs.Spots.{Spot, IsPutOut, at_phase, body_due, body_phase, element_done, elements_due, entered}
 use Rattle.cbor_copier.specs.Spots.{header_entered, putting}
 use Rattle.cbor_copier.specs.Steps.{IsFed, counted_by}
@@ -78,6 +78,13 @@ ascii_text x ascii = text_from x (sym (ascii_stays x ascii))
 -- Bytes that end between two characters are a text.
 pub state_text : (x : List ℕ) (state : State) → state ≡ after s.Between x → state ≡ s.Between → IsCharacters x
 state_text x state behind between = text_from x (sym behind ∙ between)
+
+-- Bytes that end inside a character, or are damaged, are no text.
+pub state_no_text : (x : List ℕ) (state : State) → state ≡ after s.Between x → (state ≡ s.Between → ⊥)
+    → IsCharacters x → ⊥
+state_no_text x state behind inside text = inside (behind ∙ text_ends x text)
+
+pub ruleset state_told = (state_text, state_no_text)
 
 -- ---- the spot after an element
 
@@ -141,11 +148,6 @@ kept_title title header below some is strict ends allowed count left place offse
     (rw (append-nil (out ++ []), append-nil out) led) in
     rw (append-nil (out ++ title), due_clear allowed (left - 1) left offset (offset + n) (shortest_title header)) at
     gone
-
--- The header of a string of this length.
-abbrev pub string_of : StringKind → ℕ → Header
-string_of k.Bytes len = h.Bytes (Some len)
-string_of k.Text len = h.Text (Some len)
 
 string_meant : (kind : StringKind) (len : ℕ) → IsSmallSimple (string_of kind len) → ⊥
 string_meant k.Bytes len small = small

@@ -1,13 +1,16 @@
 -- Elements that a copy keeps as they are.
-use Rattle.std.specs.Prelude.{◌≡◌, ◌≢◌, ℕ, suc, ◌+◌, ◌-◌, ◌/◌, ◌%◌, ◌<◌, ◌≤◌, ◌⊎◌, List, [], ◌++◌, length}
-use Rattle.std.specs.Prelude.{slice_index, ◌^◌}
-use Rattle.ciborium_ll_grammar.specs.Title.{affix_len}
+use Rattle.std.specs.Prelude.{◌≡◌, ◌≢◌, ℕ, suc, ◌+◌, ◌-◌, ◌/◌, ◌%◌, ◌<◌, ◌≤◌, ◌⊎◌, List, [], ◌∷◌, ◌++◌, length}
+use Rattle.std.specs.Prelude.{Some, slice_index, ◌^◌}
+use Rattle.ciborium_ll_grammar.specs.Title.{IsTitle, affix_len}
+use Rattle.ciborium_ll_grammar.specs.declared.hdr.Header.{Header}
+use Rattle.ciborium_ll_grammar.specs.declared.hdr.Header.TheVariants as h
 use Rattle.cbor_copier.specs.declared.phase.Phase.TheVariants as p
 use Rattle.cbor_parser.specs.declared.strings.StringKind.{StringKind}
+use Rattle.cbor_parser.specs.declared.strings.StringKind.TheVariants as k
 use Rattle.cbor_parser.specs.declared.strings.Within.{Within}
 use Rattle.cbor_parser.specs.declared.strings.Within.TheVariants as w
 use Rattle.ciborium_ll_grammar.specs.declared.spelling.Spelling.{Spelling}
-use Rattle.cbor_copier.specs.Spots.{Spot, elements_due}
+use Rattle.cbor_copier.specs.Spots.{IsPutOut, Spot, elements_due}
 use Rattle.cbor_copier.specs.Steps.{IsFed}
 
 -- This many elements are left. None of the next title came, and nothing is pending. With 2, 5 and 6, two elements are
@@ -50,6 +53,21 @@ ArePieces kind last bytes = (allowed : Spelling) (count within left place offset
     → IsFed allowed count fed (inside allowed kind within left place offset) out
     → IsFed allowed count (fed ++ bytes) (inside allowed kind within left (offset + last) (offset + length bytes))
     (out ++ bytes)
+
+-- The header of a string of this kind and length (RFC 7049, 2.1). `42` begins a byte string of two bytes.
+abbrev pub string_of : StringKind → ℕ → Header
+string_of k.Bytes len = h.Bytes (Some len)
+string_of k.Text len = h.Text (Some len)
+
+-- A whole string of this kind is at the beginning of the bytes, and its title has one byte (RFC 7049, 2.1). The bytes
+-- `42 01 02 03` begin so. `42 01` and `58 01 02` do not.
+pub record BeginsPiece (kind : StringKind) (bytes : List ℕ) : Type 0 where
+  pub first : ℕ
+  pub body : List ℕ
+  pub rest : List ℕ
+  pub is : bytes ≡ first ∷ body ++ rest
+  pub title : IsTitle (first ∷ []) (string_of kind (length body))
+  pub whole : IsPutOut kind body
 
 -- Strings are open, and these bytes are pieces of them, the last from this index on: `41 02` within `5f`.
 abbrev pub AreWithin : Within → ℕ → List ℕ → Type 0

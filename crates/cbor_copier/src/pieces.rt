@@ -1,7 +1,7 @@
 //! Pieces of an open string that a copy keeps as they are, and whose bytes are all there.
 
 ghost use Rattle.std.specs.Prelude.{◌≡◌, ◌+◌, ◌<◌, ◌≤◌, drop, take, length};
-ghost use Rattle.cbor_copier.specs.Plain.{ArePieces};
+ghost use Rattle.cbor_copier.specs.Plain.{ArePieces, BeginsPiece};
 
 use crate::plain::is_text;
 use cbor_parser::strings::StringKind;
@@ -22,6 +22,7 @@ fn piece_len(kind: StringKind, bytes: &[u8], at: usize) -> usize
     requires some { at < length bytes.now }
     ensures within { at + result ≤ length bytes.now }
     ensures kept { 0 < result → ArePieces kind 0 (take result (drop at bytes.now)) }
+    ensures none { result ≡ 0 → BeginsPiece kind (drop at bytes.now) → ⊥ }
 {
     let first = bytes[at];
     let len = 1 + usize::from(first % 32);
@@ -35,12 +36,13 @@ fn piece_len(kind: StringKind, bytes: &[u8], at: usize) -> usize
     }
 }
 
-/// Returns all pieces of this kind at the beginning whose lengths [`piece_len`] gives.
+/// Returns all pieces of this kind at the beginning, up to one that is not there whole or whose title is longer.
 #[inline(never)]
 pub(crate) fn pieces_run(kind: StringKind, bytes: &[u8]) -> Pieces
     ensures within { result.len ≤ length bytes.now }
     ensures last { result.last ≤ result.len }
     ensures kept { 0 < result.len → ArePieces kind result.last (take result.len bytes.now) }
+    ensures ends { BeginsPiece kind (drop result.len bytes.now) → ⊥ }
 {
     let mut at = 0;
     let mut last = 0;

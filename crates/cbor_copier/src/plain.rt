@@ -51,9 +51,10 @@ fn len_of(first: u8) -> usize
 
 /// Returns whether these bytes are UTF-8 by themselves. It asks whether they are ASCII only if the first one is.
 #[inline(never)]
-#[tactic(auto, using(crate::proofs::PlainLaws::ascii_text, crate::proofs::PlainLaws::state_text))]
+#[tactic(auto, using(crate::proofs::PlainLaws::ascii_text, crate::proofs::PlainLaws::state_told))]
 pub(crate) fn is_text(bytes: &[u8]) -> bool
-    ensures { result ≡ true → IsCharacters bytes.now }
+    ensures yes { result ≡ true → IsCharacters bytes.now }
+    ensures no { result ≡ false → IsCharacters bytes.now → ⊥ }
 {
     if !bytes.is_empty() && bytes[0] < 0x80 && bytes.is_ascii() {
         return true;

@@ -25,7 +25,7 @@ returns-clause-kept c = λ more.
     let text : b / 32 ≡ 3 → IsCharacters (take (slice_index rest 1) (drop 2 rest)) =
     λ three. elim c.else-first-eq3.branch [
       | else-first-eq3-via-then-first-eq3+else-not-is_text w ↦ rw (size, behind)
-          (rw count at (w.is_text.ensures w.if-not-is_text.false))
+          (rw count at (w.is_text.ensures.yes w.if-not-is_text.false))
       | else-first-eq3-via-else-first-eq3 w ↦ absurd (omega (arith, three, w.if-first-eq3.false))
     ] in
     let kept = long_string rest b below first c.requires.string (omega (arith, c.if-first-ne24.false))

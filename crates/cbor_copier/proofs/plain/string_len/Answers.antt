@@ -22,7 +22,7 @@ returns-clause-kept c = λ more.
     let text : slice_index rest 0 / 32 ≡ 3 → IsCharacters (take (len - 1) (drop 1 rest)) =
     λ three. elim c.else-bytes-at-eq3.branch [
       | else-bytes-at-eq3-via-then-bytes-at-eq3+else-not-is_text w ↦ rw behind
-          (rw count at (w.is_text.ensures w.if-not-is_text.false))
+          (rw count at (w.is_text.ensures.yes w.if-not-is_text.false))
       | else-bytes-at-eq3-via-else-bytes-at-eq3 w ↦ absurd (omega (arith, three, first, w.if-bytes-at-eq3.false))
     ] in
     let small = string_small (slice_index xs at) len c.len_of-len.ensures more c.requires.string in
