@@ -16,9 +16,9 @@ pub fn measure(asked: &Asked) -> io::Result<()> {
     let size = asked.megabytes << 20;
     let shorter = streams::all(size / SHORTER);
     for (stream, short) in streams::all(size).iter().zip(&shorter) {
-        let counted = counted(asked, short)?;
+        let counted = counted(&copiers(&asked.ours, &asked.original, short), short)?;
         let input = Input::new(&stream.bytes)?;
-        let sides = sides(asked, stream);
+        let sides = copiers(&asked.ours, &asked.original, stream);
         check(&sides, stream, &input)?;
         for (name, origin) in [("a file", Origin::File), ("a pipe", Origin::Pipe)] {
             let [ours, original] = best_times(&sides, &input, origin, asked.rounds)?;
@@ -34,9 +34,26 @@ pub fn measure(asked: &Asked) -> io::Result<()> {
     Ok(())
 }
 
-/// Our program and the original, as they copy this stream.
-fn sides<'a>(asked: &'a Asked, stream: &Stream) -> [Run<'a>; 2] {
-    [&asked.ours, &asked.original].map(|program| Run {
+/// Measures the copies of all streams from a file beside those of an earlier program, and prints their rows.
+pub fn measure_earlier(asked: &Asked, program: &str) -> io::Result<()> {
+    let size = asked.megabytes << 20;
+    let shorter = streams::all(size / SHORTER);
+    for (stream, short) in streams::all(size).iter().zip(&shorter) {
+        let counted = counted(&copiers(&asked.ours, program, short), short)?;
+        let input = Input::new(&stream.bytes)?;
+        let sides = copiers(&asked.ours, program, stream);
+        check(&sides, stream, &input)?;
+        let [ours, earlier] = best_times(&sides, &input, Origin::File, asked.rounds)?;
+        let speed = speed(stream.bytes.len(), ours);
+        let by_time = ratio(Some(ours), Some(earlier));
+        println!("| the program copies a file | {} | {speed} | {by_time} | {counted} |", stream.name);
+    }
+    Ok(())
+}
+
+/// Our program and another one, as they copy this stream.
+fn copiers<'a>(ours: &'a str, other: &'a str, stream: &Stream) -> [Run<'a>; 2] {
+    [ours, other].map(|program| Run {
         program,
         arguments: vec!["recode".to_string(), stream.count.to_string()],
     })
@@ -53,8 +70,7 @@ fn check(sides: &[Run; 2], stream: &Stream, input: &Input) -> io::Result<()> {
 }
 
 /// Returns the ratio of the instructions for this stream.
-fn counted(asked: &Asked, stream: &Stream) -> io::Result<String> {
+fn counted([ours, other]: &[Run; 2], stream: &Stream) -> io::Result<String> {
     let input = Input::new(&stream.bytes)?;
-    let [ours, original] = sides(asked, stream);
-    Ok(ratio(ours.instructions(&input)?, original.instructions(&input)?))
+    Ok(ratio(ours.instructions(&input)?, other.instructions(&input)?))
 }

@@ -1,7 +1,9 @@
 //! Measures the calls of the library in memory, beside the same calls of another one.
 
-use crate::measure::{best_times, ratio, speed, Input, Origin, Run};
+use crate::earlier::measure_pair;
+use crate::measure::{best_times, ratio, speed, Input, Origin};
 use crate::streams::{self, Stream};
+use crate::work::Work;
 use crate::Asked;
 use compare::command::failed;
 use std::io;
@@ -51,6 +53,16 @@ enum Beside {
 }
 
 impl Row {
+    /// Returns the work of this name by a program over a stream.
+    fn work_of<'a>(&self, program: &'a str, name: &'a str, stream: &Stream) -> Work<'a> {
+        Work { program, name, size: self.size, count: stream.count }
+    }
+
+    /// Returns whether the static library does the work, from C.
+    fn is_from_c(&self) -> bool {
+        matches!(self.beside, Beside::LibcborFromC | Beside::Whole | Beside::WholeCopy)
+    }
+
     /// This row beside something else.
     const fn beside(mut self, beside: Beside) -> Row {
         self.beside = beside;
@@ -200,21 +212,12 @@ fn measure_row(asked: &Asked, row: &Row) -> io::Result<()> {
         Beside::Titles => ("`skip_item`", &asked.bench, "items"),
         Beside::Plain(work) => ("a decoder not strict", &asked.bench, work),
     };
-    let ours = match row.beside {
-        Beside::LibcborFromC | Beside::Whole | Beside::WholeCopy => &asked.calls,
-        _ => &asked.bench,
-    };
-    let runs = |rounds: usize| {
-        [(ours, row.work), (program, work)].map(|(program, work)| Run {
-            program,
-            arguments: arguments(work, row.size, &stream, rounds),
-        })
-    };
-    check(row, &stream, &runs(1), &input)?;
+    let ours = if row.is_from_c() { &asked.calls } else { &asked.bench };
+    let sides = [row.work_of(ours, row.work, &stream), row.work_of(program, work, &stream)];
+    check(row, &stream, &sides, &input)?;
     let rounds = row.times * asked.megabytes;
-    let [ours, others] = best_times(&runs(rounds), &input, Origin::File, asked.rounds)?;
-    let [ours_once, others_once] = runs(1);
-    let [ours_twice, others_twice] = runs(2);
+    let runs = [sides[0].run(rounds), sides[1].run(rounds)];
+    let [ours, others] = best_times(&runs, &input, Origin::File, asked.rounds)?;
     println!(
         "| {} | {} | {beside} | {} | {} | {} | {} |",
         row.name,
@@ -222,36 +225,35 @@ fn measure_row(asked: &Asked, row: &Row) -> io::Result<()> {
         speed(rounds * stream.bytes.len(), ours),
         speed(rounds * stream.bytes.len(), others),
         ratio(Some(ours), Some(others)),
-        ratio(
-            instructions_between(&ours_once, &ours_twice, &input)?,
-            instructions_between(&others_once, &others_twice, &input)?,
-        ),
+        ratio(sides[0].instructions(&input)?, sides[1].instructions(&input)?),
     );
     Ok(())
 }
 
-/// Returns the words after a program's name.
-fn arguments(work: &str, size: usize, stream: &Stream, rounds: usize) -> Vec<String> {
-    let numbers = [size, stream.count, rounds].map(|number| number.to_string());
-    [work.to_string()].into_iter().chain(numbers).collect()
+/// Measures each work of a row beside the same work by an earlier bench or library for C, and prints their rows.
+pub fn measure_earlier(asked: &Asked, bench: &str, calls: &str) -> io::Result<()> {
+    let mut seen = Vec::new();
+    for row in ROWS.iter().filter(|row| row.name.contains(asked.rows.as_str())) {
+        let stream = (row.stream)(SIZE);
+        let work = (row.is_from_c(), row.work, row.size, stream.name);
+        if seen.contains(&work) {
+            continue;
+        }
+        seen.push(work);
+        let programs = if row.is_from_c() { [asked.calls.as_str(), calls] } else { [asked.bench.as_str(), bench] };
+        let sides = programs.map(|program| row.work_of(program, row.work, &stream));
+        measure_pair(asked, row.name, &sides, &stream)?;
+    }
+    Ok(())
 }
 
 /// Checks that both programs print the same sum, and not 0, which says that the work failed.
-fn check(row: &Row, stream: &Stream, sides: &[Run; 2], input: &Input) -> io::Result<()> {
-    let sums = [sides[0].output(input)?, sides[1].output(input)?];
+fn check(row: &Row, stream: &Stream, sides: &[Work; 2], input: &Input) -> io::Result<()> {
+    let sums = [sides[0].run(1).output(input)?, sides[1].run(1).output(input)?];
     if sums[0] == sums[1] && sums[0] != b"0\n" {
         return Ok(());
     }
     let sums = sums.map(|sum| String::from_utf8_lossy(&sum).into_owned());
     let (name, over) = (row.name, stream.name);
     Err(failed(&format!("{name} over {over}: the sums are {sums:?}")))
-}
-
-/// Returns the instructions of one round, by two runs that differ by it.
-fn instructions_between(once: &Run, twice: &Run, input: &Input) -> io::Result<Option<f64>> {
-    let counts = (once.instructions(input)?, twice.instructions(input)?);
-    Ok(match counts {
-        (Some(once), Some(twice)) => Some(twice - once),
-        _ => None,
-    })
 }

@@ -1,12 +1,15 @@
-//! Measures how fast this repository's program and library are beside others, and prints three tables.
+//! Measures how fast this repository's program and library are beside others, and prints three tables. Or it measures
+//! them beside those of an earlier commit, and prints one.
 //!
 //! The programs run by turns, and the least user time of several rounds counts for each.
 
 mod copies;
+mod earlier;
 mod library;
 mod measure;
 mod peers;
 mod streams;
+mod work;
 
 use compare::command::status_of;
 use std::io;
@@ -14,7 +17,8 @@ use std::process::ExitCode;
 
 /// How the program is used.
 const USAGE: &str =
-    "OURS BENCH ORIGINAL CALLS PEERS [--megabytes N] [--rounds N] [--copies] [--library] [--peers] [--rows TEXT]";
+    "OURS FILES BENCH ORIGINAL CALLS PEERS [--megabytes N] [--rounds N] [--copies] [--library] [--peers] [--rows TEXT]
+             [--earlier FOLDER]";
 
 /// A table.
 #[derive(Clone, Copy, PartialEq)]
@@ -27,6 +31,8 @@ enum Table {
 /// What the arguments ask for.
 struct Asked {
     ours: String,
+    /// The program that looks at files.
+    files: String,
     bench: String,
     original: String,
     calls: String,
@@ -38,12 +44,15 @@ struct Asked {
     tables: Vec<Table>,
     /// The text that the name of each row of the second and the third table has.
     rows: String,
+    /// The folder of our programs of an earlier commit, if they are measured, and nothing else.
+    earlier: Option<String>,
 }
 
 /// Reads the words after the program's name.
 fn asked(mut words: impl Iterator<Item = String>) -> Option<Asked> {
     let mut asked = Asked {
         ours: words.next()?,
+        files: words.next()?,
         bench: words.next()?,
         original: words.next()?,
         calls: words.next()?,
@@ -52,6 +61,7 @@ fn asked(mut words: impl Iterator<Item = String>) -> Option<Asked> {
         rounds: 7,
         tables: Vec::new(),
         rows: String::new(),
+        earlier: None,
     };
     while let Some(word) = words.next() {
         match word.as_str() {
@@ -61,6 +71,7 @@ fn asked(mut words: impl Iterator<Item = String>) -> Option<Asked> {
             "--library" => asked.tables.push(Table::Library),
             "--peers" => asked.tables.push(Table::Peers),
             "--rows" => asked.rows = words.next()?,
+            "--earlier" => asked.earlier = Some(words.next()?),
             _ => return None,
         }
     }
@@ -74,6 +85,9 @@ fn main() -> ExitCode {
 
 /// Prints the tables that were asked for, with an empty line between them.
 fn measure_all(asked: &Asked) -> io::Result<()> {
+    if let Some(folder) = &asked.earlier {
+        return earlier::measure(asked, folder);
+    }
     let all = [Table::Copies, Table::Library, Table::Peers];
     let is_asked = |table: &Table| asked.tables.is_empty() || asked.tables.contains(table);
     for (place, table) in all.into_iter().filter(is_asked).enumerate() {

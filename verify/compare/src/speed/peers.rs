@@ -1,7 +1,9 @@
 //! Measures the calls for C over items in memory, beside other libraries and beside C by hand.
 
-use crate::measure::{best_times, ratio, speed, Input, Origin, Run};
+use crate::measure::{ratio, speed, Input};
 use crate::streams::{self, Stream};
+use crate::earlier::measure_pair;
+use crate::work::{Turns, Work};
 use crate::Asked;
 use compare::command::failed;
 use std::io;
@@ -9,9 +11,6 @@ use std::path::Path;
 
 /// The bytes of an item.
 const SIZE: usize = 1 << 20;
-
-/// A timed run takes at least this many seconds.
-const LEAST: f64 = 0.1;
 
 /// More bytes than an item has, so that it comes in one piece.
 const WHOLE: usize = 1 << 30;
@@ -37,9 +36,6 @@ struct Side {
     rounds: usize,
 }
 
-/// The library for C.
-const OURS: Side = native("ours", "calls");
-
 /// All others beside ours.
 const OTHERS: &[Side] = &[
     native("C by hand", "by_hand"),
@@ -63,6 +59,15 @@ const fn managed(name: &'static str, program: &'static str, rounds: usize) -> Si
     Side { name, program, is_native: false, is_counted: false, rounds }
 }
 
+impl Side {
+    /// Returns the runs that are timed.
+    const fn turns(&self, turns: usize) -> Turns {
+        let native = Turns::native(turns);
+        let seconds = if self.is_native { native.seconds } else { LEAST_WARM };
+        Turns { rounds: self.rounds, seconds, ..native }
+    }
+}
+
 /// A call of ours, with its work and the works of the others. The works are words of the programs.
 struct Call {
     name: &'static str,
@@ -73,6 +78,13 @@ struct Call {
     others: [&'static str; 2],
     /// Whether the items have strings.
     has_strings: bool,
+}
+
+impl Call {
+    /// Returns the work of this name by a program.
+    const fn work_of<'a>(&self, program: &'a str, name: &'a str) -> Work<'a> {
+        Work { program, name, size: self.piece, count: 1 }
+    }
 }
 
 /// All calls.
@@ -112,38 +124,47 @@ pub fn measure(asked: &Asked) -> io::Result<()> {
     let names: Vec<_> = OTHERS.iter().map(|side| side.name).collect();
     println!("| call | over | MB/s | {} |", names.join(" | "));
     println!("|---|---|---|{}", "---|".repeat(names.len()));
-    for call in CALLS.iter().filter(|call| call.name.contains(asked.rows.as_str())) {
-        for (item, has_strings) in ITEMS {
-            if call.has_strings || !has_strings {
-                measure_item(asked, call, &item(SIZE))?;
-            }
-        }
+    for (call, item) in rows(asked) {
+        measure_item(asked, call, &item(SIZE))?;
     }
     Ok(())
 }
 
-/// What a side takes for its work once.
-struct Taken {
-    seconds: f64,
-    instructions: Option<f64>,
+/// Measures all calls beside the same calls of an earlier library, and prints their rows.
+pub fn measure_earlier(asked: &Asked, calls: &str) -> io::Result<()> {
+    for (call, item) in rows(asked) {
+        let sides = [asked.calls.as_str(), calls].map(|program| call.work_of(program, call.work));
+        measure_pair(asked, call.name, &sides, &item(SIZE))?;
+    }
+    Ok(())
+}
+
+/// Returns the rows that are asked for: a call, and the item that it goes over.
+fn rows(asked: &Asked) -> impl Iterator<Item = (&'static Call, fn(usize) -> Stream)> + '_ {
+    let calls = CALLS.iter().filter(|call| call.name.contains(asked.rows.as_str()));
+    calls.flat_map(|call| {
+        let items = ITEMS.iter().filter(|(_, has_strings)| call.has_strings || !has_strings);
+        items.map(move |(item, _)| (call, *item))
+    })
 }
 
 /// Measures a call over an item, and prints its row.
 fn measure_item(asked: &Asked, call: &Call, item: &Stream) -> io::Result<()> {
     let input = Input::new(&item.bytes)?;
     let programs = Path::new(asked.peers.as_str());
-    let sum = sum_of(&asked.calls, call.work, call, &input);
+    let ours = call.work_of(&asked.calls, call.work);
+    let sum = ours.sum(&input);
     if sum.is_none() {
         return Err(failed(&format!("{} over {} fails", call.name, item.name)));
     }
-    let ours = taken(asked, &OURS, &asked.calls, call.work, call, &input)?;
+    let ours = ours.taken(Turns::native(asked.rounds), &input, true)?;
     let mut cells = Vec::new();
     for side in OTHERS {
-        let work = call.others[usize::from(side.program != "libcbor")];
         let program = programs.join(side.program).to_string_lossy().into_owned();
-        let found = sum_of(&program, work, call, &input);
+        let other = call.work_of(&program, call.others[usize::from(side.program != "libcbor")]);
+        let found = other.sum(&input);
         cells.push(if found == sum || !side.is_native && found.is_some() {
-            let other = taken(asked, side, &program, work, call, &input)?;
+            let other = other.taken(side.turns(asked.rounds), &input, side.is_counted)?;
             let by_time = ratio(Some(ours.seconds), Some(other.seconds));
             match other.instructions {
                 Some(_) => format!("{by_time}, {}", ratio(ours.instructions, other.instructions)),
@@ -157,35 +178,4 @@ fn measure_item(asked: &Asked, call: &Call, item: &Stream) -> io::Result<()> {
     let speed = speed(item.bytes.len(), ours.seconds);
     println!("| {} | {} | {speed} | {} |", call.name, item.name, cells.join(" | "));
     Ok(())
-}
-
-/// Returns a program that does a work `rounds` times.
-fn run<'a>(program: &'a str, work: &str, call: &Call, rounds: usize) -> Run<'a> {
-    let words = [work.to_string(), call.piece.to_string(), 1.to_string(), rounds.to_string()];
-    Run { program, arguments: words.to_vec() }
-}
-
-/// Returns what a program prints for a work, unless it fails or prints 0.
-fn sum_of(program: &str, work: &str, call: &Call, input: &Input) -> Option<Vec<u8>> {
-    let sum = run(program, work, call, 1).output(input).ok()?;
-    Some(sum).filter(|sum| sum != b"0\n")
-}
-
-/// Returns the time and the instructions of a work. From the least time of many rounds goes that of none.
-fn taken(asked: &Asked, side: &Side, program: &str, work: &str, call: &Call, input: &Input) -> io::Result<Taken> {
-    let mut rounds = side.rounds;
-    let due = if side.is_native { LEAST } else { LEAST_WARM };
-    let least = |rounds: usize, turns: usize| {
-        let sides = [run(program, work, call, rounds), run(program, work, call, 0)];
-        best_times(&sides, input, Origin::File, turns).map(|[all, none]| all - none)
-    };
-    while least(rounds, 1)? < due {
-        rounds *= 2;
-    }
-    let count = |rounds| side.is_counted.then(|| run(program, work, call, rounds).instructions(input).ok()?).flatten();
-    let counts = [1, 2].map(count);
-    Ok(Taken {
-        seconds: least(rounds, asked.rounds)? / rounds as f64,
-        instructions: counts[1].zip(counts[0]).map(|(twice, once)| twice - once),
-    })
 }
