@@ -1,7 +1,8 @@
 -- The parts of a header, by the first byte of its title and the eight bytes after it.
 use Rattle.std.specs.Prelude.{◌≤◌, ◌^◌, IfNone, IfSome, MatchOption, None, Option, Some}
 use Rattle.std.proofs.Common.{◌≡◌, ℕ, ◌+◌, ◌*◌, ◌/◌, ◌%◌, ◌<◌, inl, inr, List, [], ◌∷◌, ◌++◌, length, refl, sym}
-use Rattle.std.proofs.Common.{◌∙◌, subst, arith, slice_index}
+use Rattle.std.proofs.Common.{◌∙◌, eqb, get_or, subst, true, arith, slice_index}
+use Rattle.std.proofs.lemmas.Bool.{agree_below_at}
 use Rattle.std.specs.Array.{IsFirstChunk}
 use Rattle.std.specs.Int.{w16, w32, w64, from_be_bytes}
 use Rattle.std.proofs.lemmas.Bool.Decides.{nat_tests}
@@ -12,6 +13,7 @@ use Rattle.ciborium_ll_grammar.specs.Title.{affix_of, affix_len, first_byte, min
 use Rattle.ciborium_ll_grammar.proofs.AffixLaws.{MinorCases, byte_at, major_with, minor_cases, one_byte}
 use Rattle.ciborium_ll_grammar.proofs.AffixLaws.{title_or_refused}
 use Rattle.capi.specs.declared.answer.CllAnswer.TheVariants as a
+use Rattle.capi.specs.declared.front.TheConstants.{KINDS}
 use Rattle.capi.specs.declared.header.CllHeader.{CllHeader}
 use Rattle.capi.specs.Fronts.{form_in, kind_in, number_in, other_kind_in}
 use Rattle.capi.specs.Headers.{Says}
@@ -19,6 +21,12 @@ use Rattle.capi.specs.Pulling.{CllPull}
 use Rattle.capi.proofs.TitleParts.{kind_under, other_kind, says_open, says_parts}
 
 ruleset tests = (arith, nat_tests)
+
+-- The table has the kind of each of the 256 first bytes.
+pub kind_says : (first kind : ℕ) → first < 256 → kind ≡ get_or KINDS first 0 → kind ≡ kind_in first
+kind_says first kind l is =
+    let same = agree_below_at (λ (b : ℕ). eqb (get_or KINDS b 0) (kind_in b)) (λ (b : ℕ). true) 256 first refl l in
+    is ∙ grind (arith, nat_tests, same)
 
 -- The kind of a first byte is that of its major type, or of its minor if the major type is 7.
 kind_is : (b other : ℕ) → b < 256 → other_kind_in (b % 32) ≡ other → kind_in b ≡ kind_under (b / 32) other
@@ -162,42 +170,20 @@ chunk_told (b ∷ b1 ∷ b2 ∷ b3 ∷ b4 ∷ b5 ∷ b6 ∷ []) front word parts
 chunk_told (b ∷ b1 ∷ b2 ∷ b3 ∷ b4 ∷ b5 ∷ b6 ∷ b7 ∷ []) front word parts old len chunk at taken is kind value form long =
     absurd (omega (arith, chunk.enough))
 
--- A first byte that holds its number begins a title.
-holds_title : (b : ℕ) → b % 32 < 24 → IsRefused b → ⊥
-holds_title b small (inl reserved) = omega (arith, reserved.0, small)
-holds_title b small (inr last) = omega (arith, last.0, small)
-
-small_kind : (b : ℕ) → b < 256 → b % 32 < 24 → b / 32 ≡ kind_in b
-small_kind b byte small = grind tests
-
-small_number : (b word : ℕ) → b % 32 < 24 → b % 32 ≡ number_in (b % 32) word
-small_number b word small = grind tests
-
-small_form : (b : ℕ) → b % 32 < 24 → 0 ≡ form_in b
-small_form b small = grind tests
-
-small_length : (b : ℕ) → b % 32 < 24 → 1 ≡ 1 + affix_len (b % 32)
-small_length b small = grind tests
-
--- At least nine bytes whose first one holds its number begin with the title of these parts.
-pub byte_told : (bytes front : List ℕ) (parts old : CllHeader) → IsFirstChunk bytes front 9
-    → ((i : ℕ) → slice_index bytes i < 256) → slice_index front 0 < 256 → slice_index front 0 % 32 < 24
-    → parts.kind ≡ slice_index front 0 / 32 → parts.value ≡ slice_index front 0 % 32 → parts.indefinite ≡ 0
-    → CllPull bytes a.Ok old parts 1
-byte_told bytes front parts old chunk at byte small kind value form =
-    let b = slice_index front 0 in
-    chunk_told bytes front _ parts old 1 chunk at (holds_title b small) refl (kind ∙ small_kind b byte small)
-    (value ∙ small_number b _ small) (form ∙ small_form b small) (small_length b small)
-
--- The number of an affix, by its length.
-pub affixed_number : (minor n word : ℕ) → 24 ≤ minor → minor ≤ 27 → (minor ≡ 24 → n ≡ word / 2 ^ 56)
+-- The number of a title, by its minor.
+pub number_told : (minor n word : ℕ) → minor ≤ 27 → (minor < 24 → n ≡ minor) → (minor ≡ 24 → n ≡ word / 2 ^ 56)
     → (minor ≡ 25 → n ≡ word / 2 ^ 48) → (minor ≡ 26 → n ≡ word / 2 ^ 32) → (minor ≡ 27 → n ≡ word)
     → n ≡ number_in minor word
-affixed_number minor n word least most one two four eight = grind tests
+number_told minor n word most small one two four eight = grind tests
 
--- A title with an affix is of no indefinite form.
-pub affixed_form : (b : ℕ) → b % 32 ≤ 27 → 0 ≡ form_in b
-affixed_form b most = grind tests
+-- A title that has a number begins with no reserved byte.
+pub number_titles : (b : ℕ) → b % 32 ≤ 27 → IsRefused b → ⊥
+number_titles b most (inl reserved) = omega (arith, reserved.0, most)
+number_titles b most (inr last) = omega (arith, last.0, most)
+
+-- A title that has a number is of no indefinite form.
+pub numbered_form : (b : ℕ) → b % 32 ≤ 27 → 0 ≡ form_in b
+numbered_form b most = grind tests
 
 open_number : (minor word : ℕ) → 27 < minor → number_in minor 0 ≡ number_in minor word
 open_number minor word least = grind tests

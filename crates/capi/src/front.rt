@@ -1,4 +1,4 @@
-//! The title at the beginning of at least nine bytes. For a title with an affix, no branch depends on the width or the
+//! The title at the beginning of at least nine bytes. For a title with a number, no branch depends on the width or the
 //! kind.
 
 ghost use Rattle.std.specs.Prelude.{◌≡◌, ◌%◌, ◌<◌, ◌≤◌, IfNone, IfSome, MatchOption};
@@ -15,21 +15,42 @@ use ciborium_ll_grammar::titles::affix_number;
 /// The least first byte of the major type 7.
 const OTHERS: u8 = 0xe0;
 
-/// The kind of a simple value. Those of a half, a single and a double follow it.
-const SIMPLE: u8 = 7;
+/// The kind of a title by its first byte (RFC 7049, 2.1 to 2.3), as of [`CllHeader`]. A line has 32 first bytes.
+#[rattlefmt::skip]
+static KINDS: [u8; 256] = [
+    0, 0, 0, 0, 0, 0, 0, 0, 0, 0, 0, 0, 0, 0, 0, 0, 0, 0, 0, 0, 0, 0, 0, 0, 0, 0, 0, 0, 0, 0, 0, 0,
+    1, 1, 1, 1, 1, 1, 1, 1, 1, 1, 1, 1, 1, 1, 1, 1, 1, 1, 1, 1, 1, 1, 1, 1, 1, 1, 1, 1, 1, 1, 1, 1,
+    2, 2, 2, 2, 2, 2, 2, 2, 2, 2, 2, 2, 2, 2, 2, 2, 2, 2, 2, 2, 2, 2, 2, 2, 2, 2, 2, 2, 2, 2, 2, 2,
+    3, 3, 3, 3, 3, 3, 3, 3, 3, 3, 3, 3, 3, 3, 3, 3, 3, 3, 3, 3, 3, 3, 3, 3, 3, 3, 3, 3, 3, 3, 3, 3,
+    4, 4, 4, 4, 4, 4, 4, 4, 4, 4, 4, 4, 4, 4, 4, 4, 4, 4, 4, 4, 4, 4, 4, 4, 4, 4, 4, 4, 4, 4, 4, 4,
+    5, 5, 5, 5, 5, 5, 5, 5, 5, 5, 5, 5, 5, 5, 5, 5, 5, 5, 5, 5, 5, 5, 5, 5, 5, 5, 5, 5, 5, 5, 5, 5,
+    6, 6, 6, 6, 6, 6, 6, 6, 6, 6, 6, 6, 6, 6, 6, 6, 6, 6, 6, 6, 6, 6, 6, 6, 6, 6, 6, 6, 6, 6, 6, 6,
+    7, 7, 7, 7, 7, 7, 7, 7, 7, 7, 7, 7, 7, 7, 7, 7, 7, 7, 7, 7, 7, 7, 7, 7, 7, 8, 9, 10, 11, 11, 11, 11,
+];
 
-/// The kind of a break.
-const BREAK: u8 = 11;
-
-/// Returns the kind of a title with an affix, by its first byte. No branch depends on the width.
+/// Returns the kind of a title by its first byte.
 #[inline(always)]
-fn affixed_kind(first: u8) -> u8
-    requires least { 24 ≤ first % 32 }
-    requires most { first % 32 ≤ 27 }
+#[tactic(auto, using(crate::proofs::FrontParts::kind_says))]
+fn kind_of(first: u8) -> u8
     ensures { result ≡ kind_in first }
 {
-    let other = SIMPLE + (first % 32 - 24);
-    if first < OTHERS { first / 32 } else { other }
+    KINDS[usize::from(first)]
+}
+
+/// Returns the number of a title that has one, by its first byte and the eight bytes after it. No branch depends on the
+/// width.
+#[inline(always)]
+#[tactic(auto, using(crate::proofs::FrontParts::number_told))]
+fn number_of(first: u8, word: u64) -> u64
+    requires { first % 32 ≤ 27 }
+    ensures { result ≡ number_in (first % 32) word }
+{
+    let affix = affix_number(first, word);
+    if first % 32 < 24 {
+        u64::from(first % 32)
+    } else {
+        affix
+    }
 }
 
 /// Gives the parts of the header of a title that has no number, and returns the length of the title. `None` means that
@@ -48,7 +69,7 @@ fn pull_open(first: u8, header: &mut CllHeader) -> Option<usize>
         return None;
     }
     header.value = 0;
-    header.kind = if first < OTHERS { first / 32 } else { BREAK };
+    header.kind = kind_of(first);
     header.indefinite = u8::from(first < OTHERS);
     Some(1)
 }
@@ -62,20 +83,14 @@ pub(crate) fn pull_front(bytes: &[u8], header: &mut CllHeader) -> Option<usize>
 {
     let front = bytes.first_chunk::<LONGEST_TITLE>()?;
     let first = front[0];
-    if first % 32 < 24 {
-        header.value = u64::from(first % 32);
-        header.kind = first / 32;
-        header.indefinite = 0;
-        return Some(1);
-    }
     if first % 32 > 27 {
         return pull_open(first, header);
     }
     let word = u64::from_be_bytes([
         front[1], front[2], front[3], front[4], front[5], front[6], front[7], front[8],
     ]);
-    header.value = affix_number(first, word);
-    header.kind = affixed_kind(first);
+    header.value = number_of(first, word);
+    header.kind = kind_of(first);
     header.indefinite = 0;
     Some(usize::from(title_lens()[usize::from(first % 32)]))
 }
