@@ -3,6 +3,7 @@ use Rattle.std.specs.Prelude.{◌≡◌, ◌==◌, ◌+◌, ◌≤◌, ◌%◌, 
 use Rattle.std.specs.Prelude.{None}
 use Rattle.std.specs.Prelude.{if◌then◌else◌, slice_index, take}
 use Rattle.ciborium_ll_grammar.specs.Title.{affix_len}
+use Rattle.ciborium_ll_grammar.specs.declared.limits.TheConstants.{LONGEST_TITLE, MOST_LEVELS}
 use Rattle.ciborium_ll_text.specs.declared.state.State.{State}
 use Rattle.ciborium_ll_text.specs.Numbers.{state_in}
 use Rattle.cbor_nests.specs.declared.remaining.Remaining.{Remaining}
@@ -62,10 +63,10 @@ levels_in (suc len) kinds counts =
 -- most 256, and each open string has come with a byte. A body has bytes left. A title isn't whole: `19 01` may be kept,
 -- and `19 01 00` may not.
 pub record IsState (snapshot : Snapshot) (phase : Phase) (within : Within) : Type 0 where
-  pub room : snapshot.nests + snapshot.depth ≤ 256
+  pub room : snapshot.nests + snapshot.depth ≤ MOST_LEVELS
   pub counted : open_count within ≤ snapshot.offset
   pub left : has_left phase ≡ true
-  pub long : snapshot.title_len ≤ 9
+  pub long : snapshot.title_len ≤ LONGEST_TITLE
   pub begun : snapshot.title_len ≤ affix_len (slice_index (take snapshot.title_len snapshot.title) 0 % 32)
 
 -- The plain numbers are those of this spot. After `82` they are, among others, the phase 1, one nest with the kind 0
