@@ -1,6 +1,9 @@
 -- The text of a body as its bytes pass is the text of its characters.
 use Rattle.std.proofs.Common.{◌≡◌, ◌∙◌, ℕ, ◌+◌, ◌/◌, ◌%◌, ◌<◌, ◌≤◌, ◌==◌, Bool, true, false, if◌then◌else◌, List, []}
-use Rattle.std.proofs.Common.{◌∷◌, ◌++◌, append_assoc, append-nil, ap, arith, inl, inr, nat_lt, refl, subst, sym}
+use Rattle.std.proofs.Common.{◌∷◌, ◌++◌, append_assoc, append-nil, ap, arith, drop, drop-drop, inl, inr, nat_lt}
+use Rattle.std.proofs.Common.{length, length-drop, refl, subst, sym, take, take-append-drop}
+use Rattle.std.specs.Array.{IsFirstChunk}
+use Rattle.std.specs.Prelude.{Err, IfOk, Ok, Result}
 use Rattle.std.proofs.lemmas.Bool.{cases_lt}
 use Rattle.std.proofs.lemmas.Bool.Decides.{nat_tests}
 use Rattle.std.proofs.lemmas.Str.{chars-encodes, encode_ascii}
@@ -32,6 +35,24 @@ pub passed_held-append : (quotes : Quotes) (held : Held) (xs ys : List ℕ)
     → passed_held quotes held (xs ++ ys) ≡ passed_held quotes (passed_held quotes held xs) ys
 passed_held-append quotes held [] ys = refl
 passed_held-append quotes held (x ∷ xs) ys = passed_held-append quotes (byte_held quotes held x) xs ys
+
+-- If the first bytes from an index on stand for themselves, the text of the bytes from there on begins with them.
+pub passed_front : (quotes : Quotes) (held : Held) (at len : ℕ) (xs : List ℕ)
+    → passed_text quotes held (take len (drop at xs)) ≡ take len (drop at xs)
+    → passed_held quotes held (take len (drop at xs)) ≡ held
+    → (passed_text quotes held (drop at xs)
+    ≡ take len (drop at xs) ++ passed_text quotes held (drop (at + len) xs))
+    × (passed_held quotes held (drop at xs) ≡ passed_held quotes held (drop (at + len) xs))
+passed_front quotes held at len xs text stays =
+    let front = take len (drop at xs) in
+    let behind = drop len (drop at xs) in
+    let whole : drop at xs ≡ front ++ behind = sym (take-append-drop len (drop at xs)) in
+    let far : behind ≡ drop (at + len) xs = drop-drop len at xs in (
+      ap (passed_text quotes held) whole
+          ∙ (passed_text-append quotes held front behind ∙ rw (text, stays, far) refl),
+      ap (passed_held quotes held) whole
+          ∙ (passed_held-append quotes held front behind ∙ rw (stays, far) refl),
+    )
 
 -- ---- one character
 
@@ -195,6 +216,27 @@ one_shown c =
       ]
     ]
 
+-- ---- bytes that stand for themselves
+
+-- These bytes stand for themselves in a text, and none is held.
+abbrev pub StandAlone : List ℕ → Type 0
+StandAlone bytes =
+    (passed_text q.Text h.Nothing bytes ≡ bytes) × (passed_held q.Text h.Nothing bytes ≡ h.Nothing)
+
+pub none_stand : StandAlone []
+none_stand = (refl, refl)
+
+-- One more byte that stands for itself follows the others.
+pub stand_more : (bytes : List ℕ) (byte : ℕ) → StandAlone bytes → byte_notation byte ≡ byte ∷ []
+    → is_lead byte ≡ false → StandAlone (bytes ++ byte ∷ [])
+stand_more bytes byte so_far itself is =
+    let one = alone byte [] [] is nothing in
+    let text : passed_text q.Text h.Nothing (byte ∷ []) ≡ byte ∷ [] =
+    one.text_is ∙ (append-nil (byte_notation byte) ∙ itself) in (
+      passed_text-append q.Text h.Nothing bytes (byte ∷ []) ∙ rw (so_far.1, so_far.0, text) refl,
+      passed_held-append q.Text h.Nothing bytes (byte ∷ []) ∙ rw (so_far.1) one.none,
+    )
+
 -- ---- whole characters
 
 -- Characters give their texts, one after the other.
@@ -208,6 +250,37 @@ all_shown (c ∷ cs) =
           ∙ rw (first.none, first.text_is, rest.text_is) refl;
       none = passed_held-append q.Text h.Nothing (encode c) (encodes cs) ∙ rw (first.none, rest.none) refl;
     }
+
+-- No bytes are held after bytes that are shown by their digits.
+digits_held : (held : Held) (bytes : List ℕ) → passed_held q.Hex held bytes ≡ held
+digits_held held [] = refl
+digits_held held (byte ∷ bytes) = digits_held held bytes
+
+pub held_same : {A B : Type 0} (quotes : Quotes) (held : Held) (bytes : List ℕ) (result : Result A B)
+    → quotes ≡ q.Hex → IfOk result (λ _. held ≡ passed_held quotes held bytes)
+held_same quotes held bytes (Ok x) is = rw is (sym (digits_held held bytes))
+held_same quotes held bytes (Err x) is = tt
+
+-- The digits of bytes and of the bytes after them are the digits of both.
+pub digits-append : (xs ys : List ℕ) → bytes_notation (xs ++ ys) ≡ bytes_notation xs ++ bytes_notation ys
+digits-append [] ys = refl
+digits-append (x ∷ xs) ys = rw (digits-append xs ys, append_assoc) refl
+
+-- The digits of the bytes from an index on begin with those of the first bytes there.
+pub digits_front : (at len : ℕ) (xs : List ℕ)
+    → bytes_notation (drop at xs) ≡ bytes_notation (take len (drop at xs)) ++ bytes_notation (drop (at + len) xs)
+digits_front at len xs =
+    ap bytes_notation (sym (take-append-drop len (drop at xs)))
+    ∙ (digits-append (take len (drop at xs)) (drop len (drop at xs)) ∙ rw (drop-drop len at xs) refl)
+
+-- If the bytes from an index on begin with a chunk, their digits begin with those of the chunk.
+pub chunk_digits : (at len : ℕ) (xs chunk : List ℕ) → at < length xs → IsFirstChunk (drop at xs) chunk len
+    → (at + len ≤ length xs)
+    × (bytes_notation (drop at xs) ≡ bytes_notation chunk ++ bytes_notation (drop (at + len) xs))
+chunk_digits at len xs chunk less is = (
+  omega (arith, less, is.enough, length-drop at xs),
+  rw is.same (digits_front at len xs),
+)
 
 pub digits_passed : (held : Held) (bytes : List ℕ) → passed_text q.Hex held bytes ≡ bytes_notation bytes
 digits_passed held [] = refl

@@ -1,16 +1,20 @@
 //! The text of bytes between quotes.
 
-ghost use Rattle.std.specs.Prelude.{◌≡◌, ◌<◌, IfOk, true};
+ghost use Rattle.std.specs.Prelude.{◌≡◌, ◌<◌, ◌≤◌, [], ◌∷◌, IfOk, false, length, take, true};
 ghost use Rattle.ciborium_ll.specs.Encoding.{WritesBytes};
 ghost use Rattle.ciborium_ll_text.specs.Digits.{hex_text};
 ghost use Rattle.cbor_diag.specs.Notation.{bytes_notation, upper_digit, upper_text};
-ghost use Rattle.cbor_diag.specs.Passing.{byte_held, byte_text, held_end, passed_held, passed_text};
+ghost use Rattle.cbor_diag.specs.Passing.{byte_held, byte_notation, byte_text, held_end, is_lead, passed_held};
+ghost use Rattle.cbor_diag.specs.Passing.{passed_text};
 
 use super::bases::{show_grouped, show_held};
 use super::held::{Held, digit, show_next};
 use crate::put::put;
 use base64::engine::general_purpose::{STANDARD, URL_SAFE_NO_PAD};
 use ciborium_ll::io::Write;
+
+/// How many bytes are shown by their digits in one write.
+const GROUP: usize = 4;
 
 /// How the body of a string is shown.
 #[derive(Clone, Copy)]
@@ -83,19 +87,87 @@ pub(super) fn show_quoted<W: Write>(
     ensures written { WritesBytes W.Write writer.old result (passed_text quotes held.old bytes.now) writer.new }
     ensures held { IfOk result (λ _. held.new ≡ passed_held quotes held.old bytes.now) }
 {
-    'bytes: for byte in bytes {
-        show_byte(writer, quotes, *held, *byte)?;
-        *held = quotes.hold(*held, *byte);
+    if let Quotes::Hex = quotes {
+        return put_hex(writer, bytes);
+    }
+    let mut at = 0;
+    'bytes: while at < bytes.len() {
+        let len = plain_len(quotes, *held, &bytes[at..]);
+        if len > 0 {
+            put(writer, &bytes[at..at + len])?;
+            at += len;
+        } else {
+            show_byte(writer, quotes, *held, bytes[at])?;
+            *held = quotes.hold(*held, bytes[at]);
+            at += 1;
+        }
     }
     Ok(())
 }
 
+/// Returns how many bytes at the beginning stand for themselves between quotes: characters of ASCII in a text that no
+/// escape spells, if no bytes are held.
+fn plain_len(quotes: Quotes, held: Held, bytes: &[u8]) -> usize
+    ensures within { result ≤ length bytes.now }
+    ensures text { 0 < result → passed_text quotes held (take result bytes.now) ≡ take result bytes.now }
+    ensures held { 0 < result → passed_held quotes held (take result bytes.now) ≡ held }
+{
+    let (Quotes::Text, Held::Nothing) = (quotes, held) else {
+        return 0;
+    };
+    let mut len = 0;
+    'bytes: while len < bytes.len() && is_plain(bytes[len]) {
+        len += 1;
+    }
+    len
+}
+
+/// Returns whether a byte is a character of ASCII that stands for itself in a text.
+fn is_plain(byte: u8) -> bool
+    ensures itself { result ≡ true → byte_notation byte ≡ byte ∷ [] }
+    ensures alone { result ≡ true → is_lead byte ≡ false }
+{
+    matches!(byte, 0x20..=0x21 | 0x23..=0x5b | 0x5d..=0x7e)
+}
+
 /// Shows bytes by two hexadecimal digits each.
-#[tactic(auto, using(crate::proofs::PassedLaws::digits_passed))]
 pub(crate) fn put_hex<W: Write>(writer: &mut W, bytes: &[u8]) -> Result<(), W::Error>
     ensures { WritesBytes W.Write writer.old result (bytes_notation bytes.now) writer.new }
 {
-    show_quoted(writer, Quotes::Hex, &mut Held::Nothing, bytes)
+    let mut at = 0;
+    'bytes: while at < bytes.len() {
+        match bytes[at..].first_chunk::<GROUP>() {
+            Some(group) => {
+                put_group(writer, group)?;
+                at += GROUP;
+            }
+            None => {
+                show_hex(writer, bytes[at])?;
+                at += 1;
+            }
+        }
+    }
+    Ok(())
+}
+
+/// Shows four bytes by two hexadecimal digits each, in one write.
+fn put_group<W: Write>(writer: &mut W, group: &[u8; GROUP]) -> Result<(), W::Error>
+    ensures { WritesBytes W.Write writer.old result (bytes_notation group.now) writer.new }
+{
+    let [a, b, c, d] = *group;
+    put(
+        writer,
+        &[
+            digit(a / 16),
+            digit(a % 16),
+            digit(b / 16),
+            digit(b % 16),
+            digit(c / 16),
+            digit(c % 16),
+            digit(d / 16),
+            digit(d % 16),
+        ],
+    )
 }
 
 /// Shows a byte as it stands between quotes, after the bytes that are held.

@@ -1,0 +1,14 @@
+use Rattle.std.proofs.Common.{get_or, arith, take}
+use Rattle.std.proofs.lemmas.List.{take_more}
+use Rattle.cbor_diag.proofs.PassedLaws.{stand_more}
+use Rattle.cbor_diag.proofs.strings.quotes.plain_len.Goals as goal
+
+pub bytes-preserved : goal.bytes-preserved
+bytes-preserved c =
+    let xs = c.args.bytes.now in
+    let n = c.bytes.len in
+    record {
+      within = omega (arith, c.bytes-test.true);
+      alone = rw (take_more xs n 0 c.bytes-test.true) (stand_more (take n xs) (get_or xs n 0) c.bytes.invariant.alone
+          (c.is_plain.ensures.itself c.if-is_plain.true) (c.is_plain.ensures.alone c.if-is_plain.true));
+    }
