@@ -127,21 +127,29 @@ impl<W: io::Write> Printer<W> {
     /// Prints the line. If colors are wanted, the part from the first `#` on has a color, and a fault has one
     /// throughout.
     fn put(&mut self, is_fault: bool) -> io::Result<()> {
+        if self.colors {
+            self.put_colored(is_fault)?;
+            return self.writer.write_all(b"\n");
+        }
+        self.line.push('\n')?;
+        self.writer.write_all(self.line.as_bytes())
+    }
+
+    /// Prints the line with its colors, and does not end it.
+    fn put_colored(&mut self, is_fault: bool) -> io::Result<()> {
         let line = self.line.as_bytes();
         let (at, color) = if is_fault {
             (0, FAULT)
         } else {
             (first_hash(self.line.as_str()), MEANING)
         };
-        if self.colors && at < line.len() {
-            self.writer.write_all(&line[..at])?;
-            self.writer.write_all(color)?;
-            self.writer.write_all(&line[at..])?;
-            self.writer.write_all(PLAIN)?;
-        } else {
-            self.writer.write_all(line)?;
+        if at == line.len() {
+            return self.writer.write_all(line);
         }
-        self.writer.write_all(b"\n")
+        self.writer.write_all(&line[..at])?;
+        self.writer.write_all(color)?;
+        self.writer.write_all(&line[at..])?;
+        self.writer.write_all(PLAIN)
     }
 
     /// Prints the verdict after the rows.
