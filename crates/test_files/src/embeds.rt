@@ -337,10 +337,10 @@ fn is_failed_write(alloc: Global, call: usize, options: Options) -> bool {
     )
 }
 
-// Each line takes two calls, one for itself and one for its end.
+// Each of the four lines takes one call.
 #[test]
 fn calls_that_fail(rt: HostRuntime) {
-    for call in 1..=8 {
+    for call in 1..=4 {
         let embedded = options_of(&rt, rt.alloc(), "dump --embedded");
         holds_at(
             &rt,
