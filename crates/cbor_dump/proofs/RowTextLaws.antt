@@ -1,9 +1,9 @@
 -- The texts of rows, as they are written step by step.
 use Rattle.std.proofs.lemmas.Bool.Decides.{nat_tests}
-use Rattle.std.proofs.Common.{◌≡◌, ◌∙◌, ℕ, ◌+◌, ◌<◌, List, [], ◌∷◌, ◌++◌, refl, sym, ap, arith}
+use Rattle.std.proofs.Common.{◌≡◌, ◌∙◌, ℕ, zero, suc, ◌+◌, ◌<◌, List, [], ◌∷◌, ◌++◌, refl, sym, ap, arith}
 use Rattle.std.proofs.Common.{append-nil, append_assoc, length, take, get_or, Option, None, Some, Result, subst}
-use Rattle.std.proofs.Common.{◌⊎◌, inl, inr, ◌-◌, ◌*◌, ◌/◌, ◌^◌, ◌≤◌, min, nat_le, length-append, Bool, true, false, codes}
-use Rattle.std.proofs.Common.{le-leb}
+use Rattle.std.proofs.Common.{◌⊎◌, inl, inr, ◌-◌, ◌*◌, ◌/◌, ◌^◌, ◌≤◌, min, nat_le, length-append, Bool, true, false}
+use Rattle.std.proofs.Common.{codes, le-leb}
 use Rattle.std.proofs.lemmas.List.{take_more}
 use Rattle.std.proofs.lemmas.Str.{IsUtf8-from_is_utf8, is_utf8-from_IsUtf8}
 use Rattle.std.specs.Result.{MatchResult, result_unwrap_or}
@@ -12,7 +12,7 @@ use Rattle.std.proofs.lemmas.Grind.{put_two}
 use Rattle.std.specs.Fmt.{HasWritten, IsPlainFormatter, DisplaysOnOk, WritesOnOk}
 use Rattle.std.specs.declared.fmt.Formatter.{Formatter}
 use Rattle.ciborium_ll_text.specs.Digits.{hex_text}
-use Rattle.cbor_dump.specs.RowTexts.{more_text, characters_text, character_text}
+use Rattle.cbor_dump.specs.RowTexts.{blank, more_text, characters_text, character_text}
 use Rattle.cbor_dump.specs.RowTexts.{shown_text, bytes_key, digits_text, no_key, quoted_text, text_key}
 use Rattle.cbor_dump.specs.RowTexts.{IsHeaderValue, IsRowText, IsValue, WritesOneOnOk, known_header, known_of}
 use Rattle.cbor_dump.specs.RowTexts.{known_text, row_text}
@@ -30,6 +30,16 @@ more_more (first ∷ bytes) byte = ap (λ (z : List ℕ). 32 ∷ (hex_text first
 pub more_at : (bytes : List ℕ) (at : ℕ) → at < length bytes
     → more_text (take (at + 1) bytes) ≡ more_text (take at bytes) ++ (32 ∷ hex_text (get_or bytes at 0))
 more_at bytes at less = ap more_text (take_more bytes at 0 less) ∙ more_more (take at bytes) (get_or bytes at 0)
+
+-- The bytes have three columns each, with the space before them.
+pub more_length : (bytes : List ℕ) → length (more_text bytes) ≡ 3 * length bytes
+more_length [] = refl
+more_length (byte ∷ bytes) = omega (arith, more_length bytes)
+
+-- Spaces are as many as they are counted.
+pub blank_length : (count : ℕ) → length (blank count) ≡ count
+blank_length zero = refl
+blank_length (suc count) = ap suc (blank_length count)
 
 -- The text of one more character follows those of the others.
 pub characters_more : (characters : List ℕ) (character : ℕ)
@@ -70,11 +80,11 @@ text_cut most bytes text fits same counted none =
 
 pub text_fits : (most : ℕ) (bytes text : List ℕ) (fits : Bool) → text ≡ shown_text bytes
     → fits ≡ nat_le (length (characters_text (chars text))) most → fits ≡ true
-    → quoted_text bytes ≡ text_key most bytes
+    → quoted_text text ≡ text_key most bytes
 text_fits most bytes text fits same counted some =
     let short : nat_le (length (characters_text (chars (shown_text bytes)))) most ≡ true =
     subst (λ (z : List ℕ). nat_le (length (characters_text (chars z))) most ≡ true) same (sym counted ∙ some) in
-    rw short refl
+    ap quoted_text same ∙ rw short refl
 
 -- The text is that of the bytes if they are UTF-8, and otherwise the given one.
 pub text_or_none : {B E : Type 0} (Rest : E → Type 0) (now : B → List ℕ) (bytes : List ℕ) (result : Result B E)

@@ -1,6 +1,7 @@
 -- The contents of the tables that rows are written from.
-use Rattle.std.proofs.Common.{◌≡◌, ℕ, zero, suc, ◌*◌, ◌+◌, ◌<◌, ◌≤◌, ◌/◌, ◌%◌, Bool, true, List, [], ◌∷◌, ◌++◌, take, drop, length}
+use Rattle.std.proofs.Common.{◌≡◌, ℕ, zero, suc, ◌*◌, ◌+◌, ◌-◌, ◌<◌, ◌≤◌, ◌/◌, ◌%◌, Bool, true, List, [], ◌∷◌, ◌++◌}
 use Rattle.std.proofs.Common.{◌&&◌, ◌∙◌, ◌≢◌, add-zero, length-drop, eqb, ltb, ap, arith, refl, sym, get_or}
+use Rattle.std.proofs.Common.{codes, drop, length, take}
 use Rattle.std.proofs.lemmas.Bool.{agree_below_at, and_parts, ltb-true}
 use Rattle.std.proofs.lemmas.Bool.Decides.{nat_tests}
 use Rattle.std.proofs.lemmas.List.{drop_more, get_or-drop}
@@ -8,7 +9,7 @@ use Rattle.std.proofs.lemmas.Str.{IsCharBoundary-from_ascii, chars-IsAscii, enco
 use Rattle.std.specs.Str.{IsAscii, IsCharBoundary, chars}
 use Rattle.ciborium_ll_text.specs.Digits.{hex_digit, hex_text}
 use Rattle.cbor_dump.specs.RowTexts.{ArePlain, blank, character_text, characters_text}
-use Rattle.cbor_dump.specs.declared.rows.TheConstants.{DIGITS, SPACES}
+use Rattle.cbor_dump.specs.declared.rows.TheConstants.{DIGITS, MARGIN}
 
 -- ---- digits
 
@@ -68,31 +69,39 @@ digits_ascii : IsAscii DIGITS.now
 unfolding all_ascii
 digits_ascii = ascii_all DIGITS.now refl
 
-spaces_ascii : IsAscii SPACES.now
+margin_ascii : IsAscii MARGIN.now
 unfolding all_ascii
-spaces_ascii = ascii_all SPACES.now refl
+margin_ascii = ascii_all MARGIN.now refl
 
 pub cut_digits : (at : ℕ) → at ≤ 768 → IsCharBoundary DIGITS.now at
 cut_digits at le = IsCharBoundary-from_ascii DIGITS.now at digits_ascii le
 
-pub cut_spaces : (at : ℕ) → at ≤ 64 → IsCharBoundary SPACES.now at
-cut_spaces at le = IsCharBoundary-from_ascii SPACES.now at spaces_ascii le
+pub cut_margin : (at : ℕ) → at ≤ 36 → IsCharBoundary MARGIN.now at
+cut_margin at le = IsCharBoundary-from_ascii MARGIN.now at margin_ascii (omega (arith, le))
 
 -- ---- spaces
 
-take_blank : (some count : ℕ) → some ≤ count → take some (blank count) ≡ blank some
-take_blank zero count le = refl
-take_blank (suc some) zero le = absurd (omega (arith, le))
-take_blank (suc some) (suc count) le = ap (λ (z : List ℕ). 32 ∷ z) (take_blank some count (omega (arith, le)))
+take_blank : (some count : ℕ) (tail : List ℕ) → some ≤ count → take some (blank count ++ tail) ≡ blank some
+take_blank zero count tail le = refl
+take_blank (suc some) zero tail le = absurd (omega (arith, le))
+take_blank (suc some) (suc count) tail le =
+    ap (λ (z : List ℕ). 32 ∷ z) (take_blank some count tail (omega (arith, le)))
 
-pub spaces_are : (some : ℕ) → some ≤ 64 → take some SPACES.now ≡ blank some
-spaces_are some le = take_blank some 64 le
+drop_blank : (some more : ℕ) (tail : List ℕ) → drop some (blank (some + more) ++ tail) ≡ blank more ++ tail
+drop_blank zero more tail = let same : 0 + more ≡ more = omega arith in ap (λ (n : ℕ). blank n ++ tail) same
+drop_blank (suc some) more tail =
+    let same : suc some + more ≡ suc (some + more) = omega arith in
+    ap (λ (n : ℕ). drop (suc some) (blank n ++ tail)) same ∙ drop_blank some more tail
 
-pub blank_join : (one other : ℕ) → blank one ++ blank other ≡ blank (one + other)
-blank_join zero other = let same : other ≡ 0 + other = omega arith in ap blank same
-blank_join (suc one) other =
-    let same : suc (one + other) ≡ suc one + other = omega arith in
-    ap (λ (z : List ℕ). 32 ∷ z) (blank_join one other) ∙ ap blank same
+-- The margin of a row begins with spaces.
+pub spaces_are : (some : ℕ) → some ≤ 36 → take some MARGIN.now ≡ blank some
+spaces_are some le = take_blank some 36 (codes " # ") le
+
+-- The margin of a row ends with spaces and ` # `.
+pub margin_ends : (some : ℕ) → some ≤ 36 → drop (36 - some) MARGIN.now ≡ blank some ++ codes " # "
+margin_ends some le =
+    let all : 36 - some + some ≡ 36 = omega (arith, le) in
+    ap (λ (n : ℕ). drop (36 - some) (blank n ++ codes " # ")) (sym all) ∙ drop_blank (36 - some) some (codes " # ")
 
 -- ---- characters that stand for themselves
 

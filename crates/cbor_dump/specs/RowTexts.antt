@@ -43,10 +43,10 @@ digits_text (byte ∷ bytes) = hex_text byte ++ more_text bytes
 
 -- ---- headers
 
--- A length or a count, or a star for the indefinite form (RFC 7049, 2.2): `array 3` or `array *`.
-abbrev pub counted_text : List ℕ → Option ℕ → List ℕ
-counted_text name (Some len) = name ++ 32 ∷ decimal len
-counted_text name None = name ++ 32 ∷ 42 ∷ []
+-- A length or a count, or a star for the indefinite form (RFC 7049, 2.2): `83` gives `3`, and `9f` gives `*`.
+abbrev pub count_text : Option ℕ → List ℕ
+count_text (Some len) = decimal len
+count_text None = 42 ∷ []
 
 -- A simple value. The four values that have names are shown by name (RFC 7049, 2.3): `f4` gives `false`, and `e0` gives
 -- `simple 0`.
@@ -82,10 +82,10 @@ header_text (h.Float float) = width_text float
 header_text (h.Simple number) = simple_text number
 header_text (h.Tag number) = tag_text number
 header_text h.Break = codes "break"
-header_text (h.Bytes len) = counted_text (codes "bytes") len
-header_text (h.Text len) = counted_text (codes "text") len
-header_text (h.Array len) = counted_text (codes "array") len
-header_text (h.Map len) = counted_text (codes "map") len
+header_text (h.Bytes len) = codes "bytes " ++ count_text len
+header_text (h.Text len) = codes "text " ++ count_text len
+header_text (h.Array len) = codes "array " ++ count_text len
+header_text (h.Map len) = codes "map " ++ count_text len
 
 -- ---- characters
 
@@ -118,7 +118,7 @@ shown_text bytes = if is_utf8 bytes then bytes else []
 
 -- A text between quotes: `61 62` gives `"ab"`.
 abbrev pub quoted_text : List ℕ → List ℕ
-quoted_text bytes = 34 ∷ (characters_text (chars (shown_text bytes)) ++ 34 ∷ [])
+quoted_text text = 34 ∷ (characters_text (chars text) ++ 34 ∷ [])
 
 -- ---- rows
 
@@ -177,7 +177,8 @@ number_key most number text = if nat_lt 19 most || nat_lt number (10 ^ most) the
 -- A text as a key, if its characters between quotes have at most `most` bytes: `61 6c 67` gives `"alg"`.
 abbrev pub text_key : ℕ → List ℕ → List ℕ
 text_key most bytes =
-    if nat_le (length (characters_text (chars (shown_text bytes)))) most then quoted_text bytes else no_key
+    let text = shown_text bytes in
+    if nat_le (length (characters_text (chars text))) most then quoted_text text else no_key
 
 -- A byte string as a key, if the columns have room for three of each byte: `01 02` gives `h'01 02'`.
 abbrev pub bytes_key : ℕ → List ℕ → List ℕ
@@ -205,7 +206,7 @@ abbrev pub text_of : Meaning → ℕ → Within → List ℕ → List ℕ
 text_of (m.Header header) level within bytes =
     commented_text level bytes
     ++ (level_text level ++ (within_text (key_columns level header) within ++ header_text header))
-text_of m.Text level within bytes = commented_text level bytes ++ quoted_text bytes
+text_of m.Text level within bytes = commented_text level bytes ++ quoted_text (shown_text bytes)
 text_of m.Bytes level within bytes = bare_text level bytes
 text_of m.Fault level within bytes = bare_text level bytes
 

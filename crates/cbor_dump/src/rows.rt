@@ -1,26 +1,30 @@
 //! The rows of a dump, and their text.
 
-ghost use Rattle.std.specs.Prelude.{◌≡◌, ◌≤◌, ◌^◌, ◌||◌, List, OnErr, OnOk, [], ◌∷◌, None, length, nat_le, nat_lt, negsuc, true};
+ghost use Rattle.std.specs.Prelude.{◌≡◌, ◌+◌, ◌*◌, ◌<◌, ◌≤◌, ◌^◌, ◌++◌, ◌||◌, List, OnErr, OnOk, [], ◌∷◌, None, codes};
+ghost use Rattle.std.specs.Prelude.{decimal, length, nat_le, nat_lt, negsuc, true};
 ghost use Rattle.std.specs.Fmt.{DisplaysOnOk, DisplaysStyledOnOk, WritesOnOk, signed_decimal};
 ghost use Rattle.std.specs.Str.{chars};
 ghost use Rattle.std.specs.declared.option.Option.{Option};
+ghost use Rattle.arrayvec.specs.ArrayString.{array_string_len};
 ghost use Rattle.ciborium_ll_text.specs.Digits.{hex_text};
-ghost use Rattle.cbor_dump.specs.declared.rows.TheConstants.{KEY_COLUMNS};
+ghost use Rattle.cbor_dump.specs.declared.rows.TheConstants.{AT_ONCE, COMMENT, KEY_COLUMNS, LINE, MARGIN};
 ghost use Rattle.cbor_dump.specs.Levels.{Line};
 ghost use Rattle.cbor_dump.specs.Dumps.{Draws};
-ghost use Rattle.cbor_dump.specs.RowTexts.{ArePlain, blank, character_text, characters_text, counted_text, digits_text};
+ghost use Rattle.cbor_dump.specs.RowTexts.{ArePlain, blank, character_text, characters_text, count_text, digits_text};
 ghost use Rattle.cbor_dump.specs.RowTexts.{IsHeaderValue, IsRowText, IsValue, WritesOneOnOk, bare_text};
-ghost use Rattle.cbor_dump.specs.RowTexts.{commented_text, header_text, indent, known_text, level_text, quoted_text};
-ghost use Rattle.cbor_dump.specs.RowTexts.{row_text, simple_text, tag_text, width_text};
+ghost use Rattle.cbor_dump.specs.RowTexts.{commented_text, header_text, indent, known_text, level_text, more_text};
+ghost use Rattle.cbor_dump.specs.RowTexts.{quoted_text, row_text, shown_text, simple_text, tag_text, width_text};
 ghost use Rattle.cbor_dump.specs.RowTexts.{within_text, bytes_key, key_columns, key_text};
 ghost use Rattle.cbor_dump.specs.RowTexts.{text_key};
 
 use crate::key::Key;
 use crate::numbers::number;
 use crate::tags::name_of;
+use arrayvec::ArrayString;
 use cbor_escapes::{is_acted_on, write_shown};
 use cbor_floats::float_value;
 use ciborium_ll::{Float, Header, simple};
+use itoa::Buffer;
 use std::fmt;
 
 /// The column of the `#` before a comment.
@@ -37,6 +41,12 @@ const DEEP_COLUMNS: usize = 12;
 
 /// How many columns fewer it has if its value is a float.
 const FLOAT_COLUMNS: usize = 5;
+
+/// How many bytes are written at once. A row of a dump has no more.
+const AT_ONCE: usize = 16;
+
+/// How many bytes these take as digits at most, with the spaces around them.
+const LINE: usize = 128;
 
 /// A space and two digits for each byte, from 00 to ff.
 const DIGITS: &str = " \
@@ -57,8 +67,8 @@ const DIGITS: &str = " \
     e0 e1 e2 e3 e4 e5 e6 e7 e8 e9 ea eb ec ed ee ef \
     f0 f1 f2 f3 f4 f5 f6 f7 f8 f9 fa fb fc fd fe ff";
 
-/// Spaces. A row rarely needs more at once.
-const SPACES: &str = "                                                                ";
+/// As many spaces as a row has before its comment, and then ` # `.
+const MARGIN: &str = "                                     # ";
 
 /// The meaning of a row's bytes.
 #[derive(Debug, Clone, Copy)]
@@ -124,16 +134,23 @@ pub trait Rows {
         ensures refused { OnErr result (drawn self.new ≡ drawn self.old) };
 }
 
-/// Writes `count` spaces.
-fn spaces<W: fmt::Write>(f: &mut fmt::Formatter<W>, count: usize) -> fmt::Result
-    ensures { WritesOnOk W.Write.write_str_gives f.old result (blank count) f.new }
+/// Returns this many spaces.
+#[inline(always)]
+fn spaces(count: usize) -> &'static str
+    requires { count ≤ COMMENT }
+    ensures { result.now ≡ blank count }
 {
-    let mut left = count;
-    'spaces: while left > SPACES.len() {
-        f.write_str(SPACES)?;
-        left -= SPACES.len();
-    }
-    f.write_str(&SPACES[..left])
+    &MARGIN[..count]
+}
+
+/// Returns this many spaces, and ` # ` after them.
+#[inline(always)]
+fn spaces_before_hash(count: usize) -> &'static str
+    requires { count ≤ COMMENT }
+    ensures text { result.now ≡ blank count ++ codes " # " }
+    ensures short { length result.now ≤ length MARGIN.now }
+{
+    &MARGIN[COMMENT - count..]
 }
 
 /// Returns the two digits of a byte.
@@ -154,26 +171,81 @@ fn digits_behind(byte: u8) -> &'static str
     &DIGITS[at..at + 3]
 }
 
-/// Writes bytes as digits, with spaces between them.
-fn digits<W: fmt::Write>(f: &mut fmt::Formatter<W>, bytes: &[u8]) -> fmt::Result
-    ensures { WritesOnOk W.Write.write_str_gives f.old result (digits_text bytes.now) f.new }
+/// Adds the digits of bytes to a text, after a space each.
+fn add_digits(text: &mut ArrayString<LINE>, bytes: &[u8])
+    requires { array_string_len text.old + 3 * length bytes.now ≤ LINE }
+    ensures { text.new.bytes ≡ text.old.bytes ++ more_text bytes.now }
 {
-    if let [first, rest @ ..] = bytes {
-        f.write_str(digits_of(*first))?;
-        'bytes: for byte in rest {
-            f.write_str(digits_behind(*byte))?;
-        }
+    'bytes: for byte in bytes {
+        text.push_str(digits_behind(*byte));
+    }
+}
+
+/// Returns this many spaces, the digits of some bytes with spaces between them, and a text after them.
+fn line_of(shift: usize, bytes: &[u8], end: &str) -> ArrayString<LINE>
+    requires shift { shift ≤ COMMENT }
+    requires some { 0 < length bytes.now }
+    requires few { length bytes.now ≤ AT_ONCE }
+    requires short { length end.now ≤ length MARGIN.now }
+    ensures { result.bytes ≡ blank shift ++ (digits_text bytes.now ++ end.now) }
+{
+    let mut line = ArrayString::new();
+    line.push_str(spaces(shift));
+    line.push_str(digits_of(bytes[0]));
+    add_digits(&mut line, &bytes[1..]);
+    line.push_str(end);
+    line
+}
+
+/// Writes the digits of bytes, after a space each.
+fn more_digits<W: fmt::Write>(f: &mut fmt::Formatter<W>, bytes: &[u8]) -> fmt::Result
+    ensures { WritesOnOk W.Write.write_str_gives f.old result (more_text bytes.now) f.new }
+{
+    'bytes: for byte in bytes {
+        f.write_str(digits_behind(*byte))?;
     }
     Ok(())
 }
 
-/// Writes a length or a count, or `*` for the indefinite form.
-fn counted<W: fmt::Write>(f: &mut fmt::Formatter<W>, name: &str, len: Option<usize>) -> fmt::Result
-    ensures { WritesOnOk W.Write.write_str_gives f.old result (counted_text name.now len) f.new }
+/// Writes this many spaces, bytes as digits with spaces between them, and a text after them: in one write, unless the
+/// bytes are more than those of a row of a dump.
+fn digits<W: fmt::Write>(
+    f: &mut fmt::Formatter<W>,
+    shift: usize,
+    bytes: &[u8],
+    end: &str,
+) -> fmt::Result
+    requires shift { shift ≤ COMMENT }
+    requires short { length end.now ≤ length MARGIN.now }
+    ensures { WritesOnOk W.Write.write_str_gives f.old result (blank shift ++ (digits_text bytes.now ++ end.now))
+        f.new }
 {
+    if !bytes.is_empty() && bytes.len() <= AT_ONCE {
+        return f.write_str(line_of(shift, bytes, end).as_str());
+    }
+    f.write_str(spaces(shift))?;
+    if let [first, rest @ ..] = bytes {
+        f.write_str(digits_of(*first))?;
+        more_digits(f, rest)?;
+    }
+    f.write_str(end)
+}
+
+/// Writes a number.
+fn decimal<W: fmt::Write>(f: &mut fmt::Formatter<W>, number: u64) -> fmt::Result
+    ensures { WritesOnOk W.Write.write_str_gives f.old result (decimal number) f.new }
+{
+    f.write_str(Buffer::new().format(number))
+}
+
+/// Writes a length or a count after the name of what it counts, or `*` for the indefinite form.
+fn counted<W: fmt::Write>(f: &mut fmt::Formatter<W>, name: &str, len: Option<usize>) -> fmt::Result
+    ensures { WritesOnOk W.Write.write_str_gives f.old result (name.now ++ count_text len) f.new }
+{
+    f.write_str(name)?;
     match len {
-        Some(len) => write!(f, "{name} {len}"),
-        None => write!(f, "{name} *"),
+        Some(len) => decimal(f, len as u64),
+        None => f.write_str("*"),
     }
 }
 
@@ -181,7 +253,7 @@ fn counted<W: fmt::Write>(f: &mut fmt::Formatter<W>, name: &str, len: Option<usi
 fn negative<W: fmt::Write>(f: &mut fmt::Formatter<W>, number: u64) -> fmt::Result
     ensures { WritesOnOk W.Write.write_str_gives f.old result (signed_decimal (negsuc number)) f.new }
 {
-    write!(f, "{}", -1 - i128::from(number))
+    f.write_str(Buffer::new().format(-1 - i128::from(number)))
 }
 
 /// Writes a simple value (RFC 7049, 2.3).
@@ -193,7 +265,10 @@ fn simple<W: fmt::Write>(f: &mut fmt::Formatter<W>, number: u8) -> fmt::Result
         simple::TRUE => f.write_str("true"),
         simple::NULL => f.write_str("null"),
         simple::UNDEFINED => f.write_str("undefined"),
-        _ => write!(f, "simple {number}"),
+        _ => {
+            f.write_str("simple ")?;
+            decimal(f, u64::from(number))
+        }
     }
 }
 
@@ -212,9 +287,11 @@ fn float<W: fmt::Write>(f: &mut fmt::Formatter<W>, value: Float) -> fmt::Result
 fn tag<W: fmt::Write>(f: &mut fmt::Formatter<W>, number: u64) -> fmt::Result
     ensures { WritesOnOk W.Write.write_str_gives f.old result (tag_text number) f.new }
 {
+    f.write_str("tag ")?;
+    decimal(f, number)?;
     match name_of(number) {
-        Some(name) => write!(f, "tag {number} ({name})"),
-        None => write!(f, "tag {number}"),
+        Some(name) => write!(f, " ({name})"),
+        None => Ok(()),
     }
 }
 
@@ -223,16 +300,16 @@ fn header<W: fmt::Write>(f: &mut fmt::Formatter<W>, header: Header) -> fmt::Resu
     ensures { WritesOnOk W.Write.write_str_gives f.old result (header_text header) f.new }
 {
     match header {
-        Header::Positive(number) => write!(f, "{number}"),
+        Header::Positive(number) => decimal(f, number),
         Header::Negative(number) => negative(f, number),
         Header::Float(value) => float(f, value),
         Header::Simple(number) => simple(f, number),
         Header::Tag(number) => tag(f, number),
         Header::Break => f.write_str("break"),
-        Header::Bytes(len) => counted(f, "bytes", len),
-        Header::Text(len) => counted(f, "text", len),
-        Header::Array(len) => counted(f, "array", len),
-        Header::Map(len) => counted(f, "map", len),
+        Header::Bytes(len) => counted(f, "bytes ", len),
+        Header::Text(len) => counted(f, "text ", len),
+        Header::Array(len) => counted(f, "array ", len),
+        Header::Map(len) => counted(f, "map ", len),
     }
 }
 
@@ -250,12 +327,19 @@ fn character<W: fmt::Write>(f: &mut fmt::Formatter<W>, c: char) -> fmt::Result
     }
 }
 
-/// Writes a text between quotes. If the bytes are no UTF-8, the quotes are empty.
-fn quoted<W: fmt::Write>(f: &mut fmt::Formatter<W>, bytes: &[u8]) -> fmt::Result
-    ensures { WritesOnOk W.Write.write_str_gives f.old result (quoted_text bytes.now) f.new }
+/// Returns the text that these bytes are, or an empty text if they are no UTF-8.
+fn text_of(bytes: &[u8]) -> &str
+    ensures { result.now ≡ shown_text bytes.now }
+{
+    str::from_utf8(bytes).unwrap_or("")
+}
+
+/// Writes a text between quotes.
+fn quoted<W: fmt::Write>(f: &mut fmt::Formatter<W>, text: &str) -> fmt::Result
+    ensures { WritesOnOk W.Write.write_str_gives f.old result (quoted_text text.now) f.new }
 {
     f.write_str("\"")?;
-    characters(f, str::from_utf8(bytes).unwrap_or(""))?;
+    characters(f, text)?;
     f.write_str("\"")
 }
 
@@ -297,8 +381,7 @@ fn indent(level: usize) -> usize
 fn bare<W: fmt::Write>(f: &mut fmt::Formatter<W>, level: usize, bytes: &[u8]) -> fmt::Result
     ensures { WritesOnOk W.Write.write_str_gives f.old result (bare_text level bytes.now) f.new }
 {
-    spaces(f, indent(level))?;
-    digits(f, bytes)
+    digits(f, indent(level), bytes, "")
 }
 
 /// Writes the bytes of a row, and the `#` before its comment.
@@ -309,10 +392,7 @@ fn commented<W: fmt::Write>(f: &mut fmt::Formatter<W>, level: usize, bytes: &[u8
 {
     let room = COMMENT.saturating_sub(bytes.len().saturating_mul(3));
     let shift = indent(level).min(room);
-    spaces(f, shift)?;
-    digits(f, bytes)?;
-    spaces(f, room - shift)?;
-    f.write_str(" # ")
+    digits(f, shift, bytes, spaces_before_hash(room - shift))
 }
 
 /// Writes the level of a title that an indent can't show.
@@ -322,7 +402,9 @@ fn deep<W: fmt::Write>(f: &mut fmt::Formatter<W>, level: usize) -> fmt::Result
     if level <= MOST_INDENT {
         return Ok(());
     }
-    write!(f, "level {level} ")
+    f.write_str("level ")?;
+    decimal(f, level as u64)?;
+    f.write_str(" ")
 }
 
 /// Returns how many columns a string that is shown as a key has at most, without its quotes.
@@ -357,6 +439,9 @@ fn has_columns(text: &str, most: usize) -> bool
     requires few { most ≤ KEY_COLUMNS }
     ensures { result ≡ nat_le (length (characters_text (chars text.now))) most }
 {
+    if is_plain(text.as_bytes()) {
+        return text.len() <= most;
+    }
     let mut len = 0usize;
     'characters: for c in text.chars() {
         len = len.saturating_add(character_len(c));
@@ -369,10 +454,11 @@ fn text_key<W: fmt::Write>(f: &mut fmt::Formatter<W>, bytes: &[u8], most: usize)
     requires few { most ≤ KEY_COLUMNS }
     ensures { WritesOnOk W.Write.write_str_gives f.old result (text_key most bytes.now) f.new }
 {
-    if !has_columns(str::from_utf8(bytes).unwrap_or(""), most) {
+    let text = text_of(bytes);
+    if !has_columns(text, most) {
         return f.write_str("..");
     }
-    quoted(f, bytes)
+    quoted(f, text)
 }
 
 /// Writes the digits of a key, if the columns have room for them.
@@ -383,8 +469,7 @@ fn bytes_key<W: fmt::Write>(f: &mut fmt::Formatter<W>, bytes: &[u8], most: usize
         return f.write_str("..");
     }
     f.write_str("h'")?;
-    digits(f, bytes)?;
-    f.write_str("'")
+    digits(f, 0, bytes, "'")
 }
 
 /// Returns whether the columns have room for an integer of this number.
@@ -400,12 +485,21 @@ fn named<W: fmt::Write>(f: &mut fmt::Formatter<W>, key: &Key, most: usize) -> fm
     ensures { WritesOnOk W.Write.write_str_gives f.old result (key_text most key.now) f.new }
 {
     match key {
-        Key::Positive(number) if has_number(*number, most) => write!(f, "{number}"),
+        Key::Positive(number) if has_number(*number, most) => decimal(f, *number),
         Key::Negative(number) if has_number(*number, most) => negative(f, *number),
         Key::Text(body) => text_key(f, body.bytes(), most),
         Key::Bytes(body) => bytes_key(f, body.bytes(), most),
         Key::Positive(_) | Key::Negative(_) | Key::Other => f.write_str(".."),
     }
+}
+
+/// Writes an index in brackets, and a space.
+fn numbered<W: fmt::Write>(f: &mut fmt::Formatter<W>, index: usize) -> fmt::Result
+    ensures { WritesOnOk W.Write.write_str_gives f.old result (codes "[" ++ (decimal index ++ codes "] ")) f.new }
+{
+    f.write_str("[")?;
+    decimal(f, index as u64)?;
+    f.write_str("] ")
 }
 
 /// Writes the place of a title, if it has one.
@@ -415,7 +509,7 @@ fn place<W: fmt::Write>(f: &mut fmt::Formatter<W>, within: &Within, most: usize)
 {
     match within {
         Within::Nothing => Ok(()),
-        Within::Index(index) => write!(f, "[{index}] "),
+        Within::Index(index) => numbered(f, *index),
         Within::Key(key) => {
             f.write_str("{")?;
             named(f, key, most)?;
@@ -437,7 +531,7 @@ fn front<W: fmt::Write>(f: &mut fmt::Formatter<W>, row: &Row<'_>) -> fmt::Result
         }
         Meaning::Text => {
             commented(f, row.level, row.bytes)?;
-            quoted(f, row.bytes)
+            quoted(f, text_of(row.bytes))
         }
         Meaning::Bytes | Meaning::Fault => bare(f, row.level, row.bytes),
     }
