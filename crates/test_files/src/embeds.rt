@@ -325,19 +325,19 @@ fn items_of_many_bytes(rt: HostRuntime) {
     holds(&rt, is_bytes, "bytes", LONGER);
 }
 
-// A string that is an item, and one that is none. Their dump has four lines.
+// A string that is an item, and one that is none. Their dump has four lines, of 46, 40, 46 and 9 bytes.
 static STRINGS: &[u8] = b"\x41\x00\x42\x01\x02";
 
 // Returns whether a writer whose call of this number takes no byte is found.
 fn is_failed_write(alloc: Global, call: usize, options: Options) -> bool {
-    let mut writer = PartWriter::new(alloc, 100).failing_at(call, None);
+    let mut writer = PartWriter::new(alloc, 40).failing_at(call, None);
     matches!(
         dump_input(alloc, STRINGS, &mut writer, options, false),
         Err(Verdict::Output(_))
     )
 }
 
-// Each of the four lines takes one call.
+// The lines go out at once, by calls of 40 bytes.
 #[test]
 fn calls_that_fail(rt: HostRuntime) {
     for call in 1..=4 {

@@ -1,6 +1,7 @@
 //! The word `dump`.
 
 ghost use Rattle.std.specs.Prelude.{◌≤◌, ◌↔◌, ℕ, List, length, IsOk, None};
+ghost use Rattle.std.specs.Str.{IsCharBoundary};
 ghost use Rattle.ciborium_ll.specs.Decoding.{offset_of};
 ghost use Rattle.ciborium_ll.specs.Premises.{CanRead};
 ghost use Rattle.cbor_dump.specs.Checking.{ReadsAsCheck};
@@ -14,18 +15,19 @@ ghost use Rattle.ciborium_ll.specs.Limits.{MOST_LEVELS};
 use crate::arguments::Options;
 use crate::check::ROOM;
 use crate::fence::Fence;
-use crate::nested::{Asked, Holder, Strings};
-use crate::shared::{Prompt, Shared};
+use crate::lines::Lines;
+use crate::nested::{Asked, Holder, Levels, Strings, level_below};
+use crate::shared::Prompt;
 use cbor_dump::counted::skip_items;
 use cbor_dump::dump::{DumpError, dump};
 use cbor_dump::rows::{Meaning, Row, Rows};
+use cbor_embedded::Embedded;
 use ciborium_ll::io::{KeepingReader, Read};
 use ciborium_ll::{Decoder, Spelling};
 use std::alloc::{AllocError, Global};
-use std::cell::RefCell;
+use std::cell::{RefCell, RefMut};
 use std::fmt::Write;
 use std::io;
-use std::io::Write as _;
 use tool_verdicts::check::{BUFFER_SIZE, fault_of, prefer_failure};
 use tool_verdicts::dump::{dump_verdict, show_left};
 use tool_verdicts::items::EMBEDDED_ROOM;
@@ -33,9 +35,10 @@ use tool_verdicts::verdict::Verdict;
 
 /// Prints rows, each as a line.
 #[derive(Drop)]
-struct Printer<W> {
+struct Printer<'o, W> {
+    /// The line of a row that has colors, or one that is not printed.
     line: String,
-    writer: W,
+    output: &'o RefCell<Lines<W>>,
     offsets: bool,
     colors: bool,
     /// How many rows of a body are printed at most, if not all are.
@@ -44,10 +47,9 @@ struct Printer<W> {
     rows: usize,
     /// The bytes of the present body that are in no row.
     hidden: Hidden,
+    /// The level of a part of the last row's title or body.
+    below: usize,
 }
-
-/// The rows of a printer, with the items in byte strings as the options ask for them.
-type Page<'m, W> = Holder<'m, Strings, Printer<W>>;
 
 /// Bytes of a body that are not shown.
 #[derive(Clone, Copy)]
@@ -68,30 +70,40 @@ const NONE_HIDDEN: Hidden = Hidden {
 const OFFSET_COLUMNS: usize = 8;
 
 /// The escape sequence before the meaning of a title or of a part of a text.
-const MEANING: &[u8] = b"\x1b[36m";
+const MEANING: &str = "\x1b[36m";
 
 /// The escape sequence before bytes at fault, and before the verdict on them.
-const FAULT: &[u8] = b"\x1b[31m";
+const FAULT: &str = "\x1b[31m";
 
 /// The escape sequence after a color.
-const PLAIN: &[u8] = b"\x1b[0m";
+const PLAIN: &str = "\x1b[0m";
 
-impl<W: io::Write> Printer<W> {
-    /// Makes the line of a row.
-    fn set_line(&mut self, row: Row<'_>) -> Result<(), AllocError> {
-        self.line.clear();
-        if self.offsets {
-            write!(self.line, "{:6}: ", row.offset)?;
+impl<W: io::Write> Printer<'_, W> {
+    /// Returns the lines that wait.
+    fn lines(&self) -> io::Result<RefMut<'_, Lines<W>>> {
+        match self.output.try_borrow_mut() {
+            Ok(lines) => Ok(lines),
+            Err(_) => Err(io::Error::from(io::ErrorKind::Other)),
         }
-        write!(self.line, "{row}")
+    }
+
+    /// Prints a row. A fault has its color throughout.
+    fn put_row(&mut self, row: &Row<'_>, is_fault: bool) -> io::Result<()> {
+        if self.colors {
+            self.line.clear();
+            write_row(&mut self.line, row, self.offsets)?;
+            return self.put_colored(is_fault);
+        }
+        let mut lines = self.lines()?;
+        write_row(&mut lines.text, row, self.offsets)?;
+        lines.end_line()
     }
 
     /// Prints a row of a body, or hides it if enough rows of the body were printed.
-    fn put_body(&mut self, row: Row<'_>) -> io::Result<()> {
+    fn put_body(&mut self, row: &Row<'_>) -> io::Result<()> {
         if self.most.is_none_or(|most| self.rows < most) {
             self.rows = self.rows.saturating_add(1);
-            self.set_line(row)?;
-            return self.put(false);
+            return self.put_row(row, false);
         }
         if self.hidden.bytes == 0 {
             self.line.clear();
@@ -121,35 +133,38 @@ impl<W: io::Write> Printer<W> {
         }
         let plural = if bytes == 1 { "" } else { "s" };
         write!(self.line, "# ... {bytes} more byte{plural}")?;
-        self.put(false)
+        self.put_line(false)
     }
 
-    /// Prints the line. If colors are wanted, the part from the first `#` on has a color, and a fault has one
-    /// throughout.
-    fn put(&mut self, is_fault: bool) -> io::Result<()> {
+    /// Prints the line, with its color if colors are wanted.
+    fn put_line(&mut self, is_fault: bool) -> io::Result<()> {
         if self.colors {
-            self.put_colored(is_fault)?;
-            return self.writer.write_all(b"\n");
+            return self.put_colored(is_fault);
         }
-        self.line.push('\n')?;
-        self.writer.write_all(self.line.as_bytes())
+        let mut lines = self.lines()?;
+        lines.text.push_str(self.line.as_str())?;
+        lines.end_line()
     }
 
-    /// Prints the line with its colors, and does not end it.
+    /// Prints the line with its color: the part from the first `#` on, or all of it if it is a fault.
     fn put_colored(&mut self, is_fault: bool) -> io::Result<()> {
-        let line = self.line.as_bytes();
-        let (at, color) = if is_fault {
-            (0, FAULT)
-        } else {
-            (first_hash(self.line.as_str()), MEANING)
-        };
-        if at == line.len() {
-            return self.writer.write_all(line);
+        let line = self.line.as_str();
+        let mut lines = self.lines()?;
+        if is_fault {
+            push_colored(&mut lines.text, FAULT, line)?;
+            return lines.end_line();
         }
-        self.writer.write_all(&line[..at])?;
-        self.writer.write_all(color)?;
-        self.writer.write_all(&line[at..])?;
-        self.writer.write_all(PLAIN)
+        let at = first_hash(line);
+        lines.text.push_str(&line[..at])?;
+        if at < line.len() {
+            push_colored(&mut lines.text, MEANING, &line[at..])?;
+        }
+        lines.end_line()
+    }
+
+    /// Writes the lines that wait.
+    fn finish(&self) -> io::Result<()> {
+        self.lines()?.finish()
     }
 
     /// Prints the verdict after the rows.
@@ -157,11 +172,11 @@ impl<W: io::Write> Printer<W> {
         self.end_body()?;
         self.line.clear();
         write!(self.line, "# {verdict}")?;
-        self.put(true)
+        self.put_line(true)
     }
 }
 
-impl<W: io::Write> Rows for Printer<W> {
+impl<W: io::Write> Rows for Printer<'_, W> {
     ghost use Rattle.std.specs.Prelude.{None};
 
     type Error = io::Error;
@@ -174,20 +189,45 @@ impl<W: io::Write> Rows for Printer<W> {
     ///
     /// The error is that of the writer, or says that there is no memory for the line.
     fn row(&mut self, row: Row<'_>) -> io::Result<()> {
+        self.below = level_below(&row);
         if matches!(row.meaning, Meaning::Bytes | Meaning::Text) {
-            return self.put_body(row);
+            return self.put_body(&row);
         }
         self.end_body()?;
-        self.set_line(row)?;
-        self.put(matches!(row.meaning, Meaning::Fault))
+        self.put_row(&row, matches!(row.meaning, Meaning::Fault))
     }
+}
+
+impl<W: io::Write> Levels for Printer<'_, W> {
+    fn below(&self) -> usize {
+        self.below
+    }
+}
+
+/// Writes the text of a row, with its offset if offsets are wanted.
+fn write_row(text: &mut String, row: &Row<'_>, offsets: bool) -> Result<(), AllocError> {
+    if offsets {
+        write!(text, "{:6}: ", row.offset)?;
+    }
+    write!(text, "{row}")
+}
+
+/// Adds a part of a line in this color.
+fn push_colored(text: &mut String, color: &str, part: &str) -> Result<(), AllocError> {
+    text.push_str(color)?;
+    text.push_str(part)?;
+    text.push_str(PLAIN)
 }
 
 /// Returns the index of the first `#`, or the length of the line if it has none.
 fn first_hash(line: &str) -> usize
-    ensures { result ≤ length line.now }
+    ensures within { result ≤ length line.now }
+    ensures boundary { IsCharBoundary line.now result }
 {
-    line.find('#').unwrap_or(line.len())
+    match line.find('#') {
+        Some(at) => at,
+        None => line.len(),
+    }
 }
 
 /// Returns the index of the first character that is no space, or the length of the line if it has none.
@@ -218,15 +258,16 @@ pub fn dump_input<R: io::Read + Drop, W: io::Write + Drop>(
     options: Options,
     colors: bool,
 ) -> Result<(), Verdict> {
-    let output = RefCell::new(writer);
+    let output = RefCell::new(Lines::new(alloc, writer));
     let mut printer = Printer {
         line: String::new(alloc),
-        writer: Shared::new(&output),
+        output: &output,
         offsets: options.offsets,
         colors,
         most: options.max,
         rows: 0,
         hidden: NONE_HIDDEN,
+        below: 0,
     };
     let outcome = dump_held(Prompt::new(reader, &output), &mut printer, options);
     let ended = match &outcome {
@@ -234,7 +275,8 @@ pub fn dump_input<R: io::Read + Drop, W: io::Write + Drop>(
         Ok(()) | Err(Verdict::Failed(_)) => printer.end_body(),
         Err(verdict) => printer.end(verdict),
     };
-    match (ended, printer.writer.flush()) {
+    let flushed = printer.finish();
+    match (ended, flushed) {
         (Ok(()), Ok(())) => outcome,
         (Err(error), _) | (Ok(()), Err(error)) => Err(Verdict::Output(error)),
     }
@@ -243,15 +285,18 @@ pub fn dump_input<R: io::Read + Drop, W: io::Write + Drop>(
 /// Prints the rows of a part of a reader's bytes, from their start, and the rows that were held when they ended.
 fn dump_held<R: io::Read + Drop, W: io::Write>(
     reader: R,
-    printer: &mut Printer<W>,
+    printer: &mut Printer<'_, W>,
     options: Options,
 ) -> Result<(), Verdict> {
+    if let Embedded::Nowhere = options.embedded {
+        return dump_rows(reader, printer, options);
+    }
     let asked = Asked {
         embedded: options.embedded,
         depth: options.depth,
     };
     let mut memory = [0; EMBEDDED_ROOM];
-    let mut holder = Holder::new(printer, &mut memory, asked);
+    let mut holder = Holder::<Strings, Printer<'_, W>>::new(printer, &mut memory, asked);
     let outcome = dump_rows(reader, &mut holder, options);
     if let Err(Verdict::Output(_)) = &outcome {
         return outcome;
@@ -264,9 +309,9 @@ fn dump_held<R: io::Read + Drop, W: io::Write>(
 
 /// Prints the rows of a part of a reader's bytes, from their start, and the bytes that are left of a title or of a body
 /// after them. It prints nothing of the items that are passed over.
-fn dump_rows<R: io::Read + Drop, W: io::Write>(
+fn dump_rows<R: io::Read + Drop, S: Levels + Rows<Error = io::Error>>(
     reader: R,
-    holder: &mut Page<'_, W>,
+    rows: &mut S,
     options: Options,
 ) -> Result<(), Verdict>
     ensures { DumpsInput ⟦<KeepingReader<'static, R> as Read>⟧ ⟦<Fence<KeepingReader<'static, R>> as Read>⟧
@@ -283,7 +328,7 @@ fn dump_rows<R: io::Read + Drop, W: io::Write>(
     }
     match options.items {
         None => {
-            let (outcome, offset) = print_all(&mut decoder, holder, options);
+            let (outcome, offset) = print_all(&mut decoder, rows, options);
             let (_, _, fault) = decoder.into_inner().into_parts();
             dump_verdict(outcome, fault, offset)
         }
@@ -291,7 +336,7 @@ fn dump_rows<R: io::Read + Drop, W: io::Write>(
             let start = decoder.offset();
             let fence = Fence::new(decoder.into_inner(), items, options.depth);
             let mut fenced = Decoder::with_spelling(fence, options.spelling, start);
-            let (outcome, offset) = print_all(&mut fenced, holder, options);
+            let (outcome, offset) = print_all(&mut fenced, rows, options);
             let (_, _, fault) = fenced.into_inner().into_inner().into_parts();
             dump_verdict(outcome, fault, offset)
         }
@@ -300,9 +345,9 @@ fn dump_rows<R: io::Read + Drop, W: io::Write>(
 
 /// Prints the rows of the bytes that a decoder reads, and the bytes that are left of a title or of a body after them.
 /// Returns the answer of the dump, and the offset at which the rows ended.
-fn print_all<R: Read, W: io::Write>(
+fn print_all<R: Read, S: Levels + Rows<Error = io::Error>>(
     decoder: &mut Decoder<R>,
-    holder: &mut Page<'_, W>,
+    rows: &mut S,
     options: Options,
 ) -> (Result<R::Error, DumpError<R::Error, io::Error>>, usize)
 where
@@ -310,9 +355,9 @@ where
     requires alike { IsInMode options.spelling decoder.old }
     ensures { PrintsRows R.Read options.depth decoder.old result.0 result.1 }
 {
-    let outcome = print_rows(decoder, options.depth, options.spelling, holder);
+    let outcome = print_rows(decoder, options.depth, options.spelling, rows);
     let offset = decoder.offset();
-    let outcome = show_left(decoder, outcome, holder.below(), holder);
+    let outcome = show_left(decoder, outcome, rows.below(), rows);
     (outcome, offset)
 }
 
@@ -320,11 +365,11 @@ where
 ///
 /// If every row was printed, a steady reader tells its bytes and the offset fits, `Ok` comes exactly if the bytes are a
 /// sequence of items. Otherwise the error names the first fault after the whole items, with its offset.
-fn print_rows<R: Read, W: io::Write>(
+fn print_rows<R: Read, S: Rows<Error = io::Error>>(
     decoder: &mut Decoder<R>,
     depth: usize,
     spelling: Spelling,
-    holder: &mut Page<'_, W>,
+    rows: &mut S,
 ) -> Result<R::Error, DumpError<R::Error, io::Error>>
 where
     R::Error: Drop,
@@ -337,5 +382,5 @@ where
         (dump_said result None (offset_of decoder.new)) }
     ensures reads { AreRowsTaken result → ReadsAsCheck R.Read depth decoder.old result decoder.new }
 {
-    dump(decoder, depth, spelling, holder)
+    dump(decoder, depth, spelling, rows)
 }

@@ -20,6 +20,7 @@ pub mod help;
 pub mod index;
 pub mod input;
 pub mod items;
+mod lines;
 mod nested;
 mod options;
 pub mod progress;

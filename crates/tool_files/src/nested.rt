@@ -113,6 +113,12 @@ impl<B: Bodies> Bodies for Deeper<B> {
     }
 }
 
+/// Takes the rows of a dump, and tells where the bytes after them would stand.
+pub(crate) trait Levels: Rows {
+    /// Returns the level of a part of the last row's title or body.
+    fn below(&self) -> usize;
+}
+
 /// Takes rows, and holds those of a byte string's body until all of them have come. If the body is one item, the rows of
 /// the item take their place. Otherwise they are handed on as they came.
 #[derive(Drop)]
@@ -150,11 +156,6 @@ impl<'m, B: Bodies, S: Rows> Holder<'m, B, S> {
             below: 0,
             bodies: PhantomData,
         }
-    }
-
-    /// Returns the level of a part of the last row's title or body.
-    pub(crate) fn below(&self) -> usize {
-        self.below
     }
 
     /// Hands on the bytes that are held, in rows as they came.
@@ -281,6 +282,12 @@ impl<B: Bodies, S: Rows> Rows for Holder<'_, B, S> {
     }
 }
 
+impl<B: Bodies, S: Rows> Levels for Holder<'_, B, S> {
+    fn below(&self) -> usize {
+        self.below
+    }
+}
+
 impl<B: Bodies, S: Rows> Deepen for Holder<'_, B, S> {
     ghost base = { λ holder. holder.base };
 
@@ -327,7 +334,7 @@ fn put_rows<S: Rows>(
 }
 
 /// Returns the level of a part of a row: one deeper than a title, and otherwise the level of the row.
-fn level_below(row: &Row<'_>) -> usize {
+pub(crate) fn level_below(row: &Row<'_>) -> usize {
     match row.meaning {
         Meaning::Header(_) => row.level.saturating_add(1),
         Meaning::Bytes | Meaning::Text | Meaning::Fault => row.level,
