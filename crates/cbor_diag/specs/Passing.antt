@@ -1,6 +1,7 @@
 -- The text of a body as its bytes pass, byte by byte. The last byte of a character decides whether the character is
 -- escaped.
-use Rattle.std.specs.Prelude.{ℕ, ◌+◌, ◌*◌, ◌%◌, Bool, ◌&&◌, nat_le, nat_lt, if◌then◌else◌, List, [], ◌∷◌, ◌++◌}
+use Rattle.std.specs.Prelude.{◌≡◌, ℕ, ◌+◌, ◌*◌, ◌%◌, Bool, false, ◌&&◌, nat_le, nat_lt, if◌then◌else◌}
+use Rattle.std.specs.Prelude.{List, [], ◌∷◌, ◌++◌}
 use Rattle.base64.specs.Engines.{standard, url_safe_no_pad}
 use Rattle.base64.specs.GeneralPurpose.{encode_of}
 use Rattle.base64.specs.declared.engine.general_purpose.GeneralPurpose.{GeneralPurpose}
@@ -33,6 +34,11 @@ shown_character code bytes = if is_acted_on code then escape_text code else byte
 -- A byte that begins no character of two or three bytes. `0a` gives `\n`, and `f0` gives itself.
 abbrev pub byte_notation : ℕ → List ℕ
 byte_notation byte = if nat_lt byte 128 then character_notation byte else byte ∷ []
+
+-- The byte stands for itself in a text: it begins no character of two or three bytes, and no escape spells it. `61` and
+-- `f0` do, and `0a` does not.
+abbrev pub StandsForItself : ℕ → Type 0
+StandsForItself byte = (is_lead byte ≡ false) × (byte_notation byte ≡ byte ∷ [])
 
 -- The text of the next byte of a text, after the bytes that are held. After `e2 80` the byte `ae` gives `\u202e`.
 abbrev pub next_text : Held → ℕ → List ℕ

@@ -94,11 +94,14 @@ impl Line {
         ensures { WritesBytes W.Write writer.old result
             (comma is_first ++ nest_space nest.header nest.mark self.style.layout self.level is_first) writer.new }
     {
-        if is_first {
-            return self.space(writer, nest, is_first);
+        match (self.style.layout, nest.header) {
+            _ if is_first => self.space(writer, nest, true),
+            (Layout::OneLine, Header::Array(_) | Header::Map(_)) => put(writer, b", "),
+            _ => {
+                put(writer, b",")?;
+                self.space(writer, nest, false)
+            }
         }
-        put(writer, b",")?;
-        self.space(writer, nest, is_first)
     }
 
     /// Writes the space before an item within a tag, an array or a map.

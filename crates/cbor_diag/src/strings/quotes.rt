@@ -1,11 +1,12 @@
 //! The text of bytes between quotes.
 
-ghost use Rattle.std.specs.Prelude.{◌≡◌, ◌<◌, ◌≤◌, [], ◌∷◌, IfOk, false, length, take, true};
+ghost use Rattle.std.specs.Prelude.{◌≡◌, ◌↔◌, ◌<◌, ◌≤◌, [], ◌∷◌, IfOk, IsTrue, length, slice_index, take};
 ghost use Rattle.ciborium_ll.specs.Encoding.{WritesBytes};
 ghost use Rattle.ciborium_ll_text.specs.Digits.{hex_text};
 ghost use Rattle.cbor_diag.specs.Notation.{bytes_notation, upper_digit, upper_text};
-ghost use Rattle.cbor_diag.specs.Passing.{byte_held, byte_notation, byte_text, held_end, is_lead, passed_held};
-ghost use Rattle.cbor_diag.specs.Passing.{passed_text};
+ghost use Rattle.cbor_diag.specs.Passing.{StandsForItself, byte_held, byte_text, held_end, passed_held, passed_text};
+ghost use Rattle.cbor_diag.specs.declared.strings.held.Held.TheVariants.{Nothing as NothingHeld};
+ghost use Rattle.cbor_diag.specs.declared.strings.quotes.Quotes.TheVariants.{Text as TextQuotes};
 
 use super::bases::{show_grouped, show_held};
 use super::held::{Held, digit, show_next};
@@ -105,29 +106,34 @@ pub(super) fn show_quoted<W: Write>(
     Ok(())
 }
 
-/// Returns how many bytes at the beginning stand for themselves between quotes: characters of ASCII in a text that no
-/// escape spells, if no bytes are held.
+/// Returns how many bytes at the beginning stand for themselves between quotes: those of a text up to the first that
+/// does not, if no bytes are held.
 fn plain_len(quotes: Quotes, held: Held, bytes: &[u8]) -> usize
     ensures within { result ≤ length bytes.now }
     ensures text { 0 < result → passed_text quotes held (take result bytes.now) ≡ take result bytes.now }
     ensures held { 0 < result → passed_held quotes held (take result bytes.now) ≡ held }
+    ensures ends { quotes ≡ TextQuotes → held ≡ NothingHeld → result < length bytes.now
+        → StandsForItself (slice_index bytes.now result) → ⊥ }
 {
     let (Quotes::Text, Held::Nothing) = (quotes, held) else {
         return 0;
     };
     let mut len = 0;
-    'bytes: while len < bytes.len() && is_plain(bytes[len]) {
+    'bytes: while len < bytes.len() && stands_for_itself(bytes[len]) {
         len += 1;
     }
     len
 }
 
-/// Returns whether a byte is a character of ASCII that stands for itself in a text.
-fn is_plain(byte: u8) -> bool
-    ensures itself { result ≡ true → byte_notation byte ≡ byte ∷ [] }
-    ensures alone { result ≡ true → is_lead byte ≡ false }
+/// Returns whether a byte stands for itself in a text: a character of ASCII that no escape spells, or another byte that
+/// begins no character of two or three bytes.
+fn stands_for_itself(byte: u8) -> bool
+    ensures { IsTrue result ↔ StandsForItself byte }
 {
-    matches!(byte, 0x20..=0x21 | 0x23..=0x5b | 0x5d..=0x7e)
+    matches!(
+        byte,
+        0x20..=0x21 | 0x23..=0x5b | 0x5d..=0x7e | 0x80..=0xc1 | 0xf0..=0xff
+    )
 }
 
 /// Shows bytes by two hexadecimal digits each.

@@ -7,8 +7,9 @@ pub bytes-preserved : goal.bytes-preserved
 bytes-preserved c =
     let xs = c.args.bytes.now in
     let n = c.bytes.len in
+    let stands = c.stands_for_itself.ensures.0 c.if-stands_for_itself.true in
     record {
       within = omega (arith, c.bytes-test.true);
       alone = rw (take_more xs n 0 c.bytes-test.true) (stand_more (take n xs) (get_or xs n 0) c.bytes.invariant.alone
-          (c.is_plain.ensures.itself c.if-is_plain.true) (c.is_plain.ensures.alone c.if-is_plain.true));
+          stands.1 stands.0);
     }

@@ -34,6 +34,13 @@ bytes-preserved-then-len-gt0 g c =
       held = sym next.1 ∙ c.bytes.invariant.held;
     }
 
+pub returns-in_err-show_byte-clause-written : goal.returns-in_err-show_byte-clause-written
+returns-in_err-show_byte-clause-written g c =
+    let next = drop_more c.args.bytes.now c.bytes.at _ (omega (arith, c.bytes-test.true)) in
+    piece_stops c.bytes.invariant.text _ _ _ c.from_residual-in_err-show_byte.result
+    (ap (passed_text c.args.quotes c.bytes.held) next) c.from_residual-in_err-show_byte.ensures.0
+    c.in_err-show_byte.ensures
+
 pub bytes-preserved : goal.bytes-preserved
 bytes-preserved g c =
     let next = drop_more c.args.bytes.now c.bytes.at _ (omega (arith, c.bytes-test.true)) in
