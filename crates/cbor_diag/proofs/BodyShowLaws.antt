@@ -1,6 +1,6 @@
 -- A body that is copied to a quoting writer, and shown in quotes.
 use Rattle.std.proofs.Common.{◌≡◌, ◌∙◌, ℕ, ◌+◌, List, [], ◌++◌, drop, Option, Some, None, Result, Ok, Err, ap, arith}
-use Rattle.std.proofs.Common.{append_assoc, append-nil, length-append}
+use Rattle.std.proofs.Common.{◌≤◌, append_assoc, append-nil, length, length-append, refl}
 use Rattle.std.proofs.lemmas.List.{take-append-drop}
 use Rattle.ciborium_ll.specs.Types.Read.{Ghosts as Reader}
 use Rattle.ciborium_ll.specs.Types.Write.{Ghosts as Writer}
@@ -9,6 +9,8 @@ use Rattle.ciborium_ll.specs.Types.Error.{Error}
 use Rattle.ciborium_ll.specs.Types.RecodeError.{RecodeError}
 use Rattle.ciborium_ll.specs.Types.RecodeError.TheVariants as r
 use Rattle.ciborium_ll.specs.Transfer.{Target}
+use Rattle.ciborium_ll.specs.Decoding.{ReadsPast}
+use Rattle.ciborium_ll_decoder.specs.Finishing.{StopsReading}
 use Rattle.ciborium_ll.specs.Strings.{IsWritable, Kind}
 use Rattle.ciborium_ll.specs.Encoding.{WritesAll, WritesFront}
 use Rattle.ciborium_ll.specs.Recoding.{BodyUnwritten, CopiesBody}
@@ -19,6 +21,8 @@ use Rattle.cbor_diag.specs.StringShows.{kind_quotes}
 use Rattle.cbor_diag.specs.Notation.{body_text}
 use Rattle.cbor_diag.specs.Passing.{passed_text}
 use Rattle.ciborium_ll.proofs.DecodingLaws.{ReadsPast-none}
+use Rattle.ciborium_ll.proofs.PiecesWritten.{writes_nothing}
+use Rattle.ciborium_ll_text.proofs.FrontLaws.{IsStuck-nil}
 use Rattle.ciborium_ll_decoder.proofs.BodyLaws.{writable_nil}
 use Rattle.cbor_diag.proofs.QuoteLaws.{wrote_both, wrote_first}
 use Rattle.cbor_skip.specs.declared.SkipError.TheVariants as s
@@ -83,6 +87,55 @@ module _ {R E W F V : Type 0} (source : Reader R E) (sink : Writer W F) (given :
     through_quotes (Err (r.Read error)) copied =
         record { ends = copied.ends; written = quoted_front _ copied.ends.part.sound copied.written }
     through_quotes (Err (r.Write fault)) stops = quoted_part stops
+
+module _ {R E W F : Type 0} (source : Reader R E) (sink : Writer W F) (kind : Kind) (quotes : Quotes)
+    (len room place : ℕ) (old new : Decoder R) (w : W) (is : quotes ≡ kind_quotes kind) where
+  -- If the one read of a body failed, or gave no text, nothing is written.
+  pub short_stops : (error : Error E) → len ≤ room → StopsReading source kind [] len [] place len old error new
+      → CopiesQuoted source sink kind len room place quotes (sides old w) (Err (r.Read error)) (sides new w)
+  short_stops error held stops = record {
+    ends = record {
+      between = old;
+      part = record {
+        read = [];
+        front = [];
+        left = [];
+        parts = refl;
+        few = omega arith;
+        stuck = IsStuck-nil;
+        sound = writable_nil kind;
+        within = omega arith;
+        passed = ReadsPast-none source old;
+      };
+      count = len;
+      filled = omega (arith, held);
+      stops = stops;
+    };
+    written = rw (body_text-nil quotes) (writes_nothing sink w);
+  }
+
+  module _ (bytes : List ℕ) (w' : W) (all : length bytes ≡ len) (sound : IsWritable kind bytes)
+      (passed : ReadsPast source old bytes new) where
+    -- A body that one read gave was copied in quotes.
+    pub short_shown : WritesAll sink w (passed_text quotes h.Nothing bytes) w'
+        → CopiesQuoted source sink kind len room place quotes (sides old w) (Ok (tt {0})) (sides new w')
+    short_shown written = record {
+      ends = record { read = bytes; all = all; sound = sound; passed = passed };
+      written = rw (← passed_body kind quotes bytes is sound) written;
+    }
+
+    -- If the writer fails within it, it wrote a beginning.
+    pub short_unshown : (fault : F) → WritesFront sink w (passed_text quotes h.Nothing bytes) w'
+        → CopiesQuoted source sink kind len room place quotes (sides old w) (Err (r.Write fault)) (sides new w')
+    short_unshown fault front = record {
+      bytes = bytes;
+      kept = [];
+      passed = rw append-nil passed;
+      within = omega (arith, all);
+      few = omega arith;
+      sound = sound;
+      stopped = rw (← passed_body kind quotes bytes is sound) front;
+    }
 
 module _ {R E W F : Type 0} (source : Reader R E) (sink : Writer W F) (kind : Kind) (quotes : Quotes)
     (len room place : ℕ) (old : Decoder R) (w : W) where

@@ -1,6 +1,6 @@
 -- The show of a string, segment by segment.
 use Rattle.std.proofs.Common.{arith, ◌≡◌, ℕ, Bool, true, false, List, [], ◌∷◌, ◌++◌, Option, Some, None, Result, Ok}
-use Rattle.std.proofs.Common.{Err, refl, sym, append_assoc, append-nil}
+use Rattle.std.proofs.Common.{Err, refl, sym, subst, length, append_assoc, append-nil}
 use Rattle.ciborium_ll_grammar.specs.declared.spelling.Spelling.{Spelling}
 use Rattle.ciborium_ll.specs.Types.Read.{Ghosts as Reader}
 use Rattle.ciborium_ll.specs.Types.Write.{Ghosts as Writer}
@@ -11,12 +11,13 @@ use Rattle.ciborium_ll.specs.Types.Body.{Body}
 use Rattle.ciborium_ll.specs.Types.Progress.{Progress}
 use Rattle.ciborium_ll.specs.Types.Progress.TheVariants as p
 use Rattle.ciborium_ll.specs.Title.{IsInRange, shortest_title}
-use Rattle.ciborium_ll.specs.Strings.{Kind, kind_header}
+use Rattle.ciborium_ll.specs.Strings.{Kind, IsString, kind_header}
+use Rattle.ciborium_ll.specs.Strings.IsString.{definite}
 use Rattle.ciborium_ll.specs.Decoding.{IsSteady, ReadsPast, TakesBack}
 use Rattle.ciborium_ll.specs.Encoding.{WritesAll}
 use Rattle.ciborium_ll.specs.Segments.{AdvancesTo, EndsAdvance, IsRefusedAt}
 use Rattle.ciborium_ll.specs.Sides.{Sides, sides}
-use Rattle.ciborium_ll.proofs.DecodingLaws.{ReadsPast-pulled}
+use Rattle.ciborium_ll.proofs.DecodingLaws.{ReadsPast-none, ReadsPast-pulled}
 use Rattle.ciborium_ll.proofs.HaltLaws.{kind_not_misplaced}
 use Rattle.ciborium_ll.proofs.StringLaws.{not_break}
 use Rattle.ciborium_ll.proofs.StepLaws.{counted}
@@ -26,6 +27,8 @@ use Rattle.cbor_diag.specs.declared.DiagError.{DiagError}
 use Rattle.cbor_diag.specs.declared.DiagError.TheVariants as d
 use Rattle.cbor_diag.specs.declared.strings.quotes.Quotes.{Quotes}
 use Rattle.cbor_diag.specs.declared.marks.Mark.{Mark}
+use Rattle.cbor_diag.specs.declared.marks.Mark.TheVariants as m
+use Rattle.cbor_diag.specs.Marks.{mark_text}
 use Rattle.cbor_diag.specs.Showing.{ShowsText}
 use Rattle.cbor_diag.specs.StringShows.{BeginsBodies, BodyAnnounced, IsTitled, StringRead, ShowsBody, ShowsString}
 use Rattle.cbor_diag.specs.StringShows.{MeetsNoBody, StringStops, bodies_text, end_text, is_indefinite, is_none}
@@ -106,6 +109,12 @@ module _ {R E : Type 0} {source : Reader R E} (k : Kind) (allowed : Spelling) wh
 
 -- ---- the loop over segments
 
+-- The end of a string of the indefinite form has no mark.
+pub any_mark : (quotes : Quotes) (mark : Mark) (first : Bool)
+    → end_text true quotes m.Absent first ≡ end_text true quotes mark first
+any_mark quotes mark true = refl
+any_mark quotes mark false = refl
+
 module _ {R E W F : Type 0} (source : Reader R E) (sink : Writer W F) (k : Kind) (quotes : Quotes) (len : Option ℕ)
     (opened : Decoder R) (w : W) where
   -- The loop has read and shown these bodies.
@@ -133,6 +142,51 @@ module _ {R E W F : Type 0} (source : Reader R E) (sink : Writer W F) (k : Kind)
   closes mark room new last (Ok done) reads said = record { reads = reads; written = said }
   closes mark room new last (Err (d.Read error)) reads said = absurd said
   closes mark room new last (Err (d.Write fault)) reads said = at_end reads said
+
+-- ---- a lone body
+
+-- A title and its body are a string.
+lone_string : (k : Kind) (len : ℕ) (read : List ℕ) → IsInRange (kind_header k (Some len)) → length read ≡ len
+    → IsString k (shortest_title (kind_header k (Some len)) ++ read) (read ∷ [])
+lone_string k len read range all =
+    let within : IsInRange (kind_header k (Some (length read))) =
+    subst (λ (n : ℕ). IsInRange (kind_header k (Some n))) (sym all) range in
+    subst (λ (n : ℕ). IsString k (shortest_title (kind_header k (Some n)) ++ read) (read ∷ [])) all
+    (definite (IsTitle-shortest (kind_header k (Some (length read))) within))
+
+module _ {R E W F : Type 0} (source : Reader R E) (sink : Writer W F) (k : Kind) (quotes : Quotes) (len : ℕ)
+    (opened : Decoder R) (w : W) (mark : Mark) (room place : ℕ) where
+  -- If the body of a string of the definite form was shown, the write of the mark decides the answer.
+  pub lone_said : {now : Decoder R} {w' : W} → IsInRange (kind_header k (Some len))
+      → ShowsBody source sink k len room place quotes (sides opened w) (Ok (tt {0})) (sides now w')
+      → (result : Result (Unit {0}) (DiagError E F)) (last : W)
+      → ShowsText sink (Some (mark_text mark)) w' result last
+      → ShowsString source sink k quotes (Some len) mark room (sides opened w) result (sides now last)
+  lone_said {now} range shown result last said =
+      let read = shown.ends.read in
+      closes source sink k quotes (Some len) opened w mark room now last result (record {
+        behind = read;
+        bodies = read ∷ [];
+        is_string = lone_string k len read range shown.ends.all;
+        passed = shown.ends.passed;
+      }) (said_then (rw (sym (append-nil (quoted_body quotes read))) at shown.written) _ last result said)
+
+  lone_due : BodyAnnounced source sink k quotes (Some len) mark len (sides opened w) (sides opened w)
+  lone_due = record {
+    behind = [];
+    bodies = [];
+    titled = (refl, refl, refl);
+    passed = ReadsPast-none source opened;
+    written = writes_nothing sink w;
+  }
+
+  -- If the body was not shown whole, the show of the string ends there.
+  pub lone_stops : (error : DiagError E F) (ended : Sides R W)
+      → ShowsBody source sink k len room place quotes (sides opened w) (Err error) ended
+      → ShowsString source sink k quotes (Some len) mark room (sides opened w) (Err error) ended
+  lone_stops (d.Read (s.Read error)) ended shown = in_body len place (sides opened w) lone_due shown
+  lone_stops (d.Write fault) ended shown = at_body len (sides opened w) lone_due shown
+  lone_stops error ended shown = absurd shown
 
 module _ {R E W F : Type 0} {source : Reader R E} {sink : Writer W F} {k : Kind} {quotes : Quotes} {len : Option ℕ}
     {opened : Decoder R} {w w' : W} {first : Bool} {progress : Progress} {now : Decoder R} (allowed : Spelling)

@@ -1,6 +1,6 @@
 //! Shows strings, in quotes.
 
-ghost use Rattle.std.specs.Prelude.{◌≡◌, ◌≤◌, ℕ, [], Option, None, Some, IfErr};
+ghost use Rattle.std.specs.Prelude.{◌≡◌, ◌≤◌, [], None, Some, IfErr, true};
 ghost use Rattle.ciborium_ll.specs.Types.Decoder.{Decoder as AnyDecoder};
 ghost use Rattle.ciborium_ll.specs.Types.Header.TheVariants as Header;
 ghost use Rattle.ciborium_ll.specs.Title.{IsInRange, title_len};
@@ -14,18 +14,22 @@ ghost use Rattle.ciborium_ll.specs.Sides.{sides};
 ghost use Rattle.cbor_diag.specs.Showing.{IsWriting, OnString, ShowsText};
 ghost use Rattle.cbor_diag.specs.declared.strings.TheConstants.{BUFFER_SIZE};
 ghost use Rattle.cbor_diag.specs.Marks.{mark_text};
+ghost use Rattle.cbor_diag.specs.declared.marks.Mark.{Mark as AnyMark};
+ghost use Rattle.cbor_diag.specs.declared.marks.Mark.TheVariants.{Absent};
 ghost use Rattle.cbor_diag.specs.OpenShows.{ShowsStringBy};
-ghost use Rattle.cbor_diag.specs.StringShows.{CopiesQuoted, ShowsBody, ShowsString, end_text, is_indefinite};
+ghost use Rattle.cbor_diag.specs.StringShows.{CopiesQuoted, ShowsBody, ShowsString, end_text};
 ghost use Rattle.cbor_diag.specs.StringShows.{kind_quotes, lead_text};
 
 mod bases;
 mod chunks;
+mod definite;
 pub mod held;
 mod noted;
 pub mod quoted;
 pub mod quotes;
 
 use self::chunks::show_open;
+use self::definite::show_definite;
 use self::quoted::Quoted;
 use self::quotes::Quotes;
 pub(crate) use self::quotes::put_hex;
@@ -34,7 +38,7 @@ use crate::marks::Mark;
 use crate::put::say;
 use cbor_skip::SkipError;
 use ciborium_ll::io::{Read, Write};
-use ciborium_ll::{Body, Bytes, Chunked, Decoder, RecodeError, Segments, Text};
+use ciborium_ll::{Body, Bytes, Chunked, Decoder, Header, RecodeError, Segments, Text};
 
 /// The length in bytes of the buffer through which a string's body is read.
 pub const BUFFER_SIZE: usize = 64;
@@ -75,8 +79,14 @@ fn show_bytes_bodies<R: Read, W: Write>(
         result (sides decoder.new writer.new) }
     ensures moves_on { MovesOn R.Read decoder.old decoder.new }
 {
-    let mut segments = decoder.bytes(len);
-    show_segments(&mut segments, writer, Quotes::Hex, len.is_none(), mark)
+    match len {
+        Some(length) => {
+            let place = decoder.offset() - Header::Bytes(len).title_len();
+            let body = Body { length, place };
+            show_definite::<R, W, Bytes>(decoder, writer, body, Quotes::Hex, mark)
+        }
+        None => show_segments(&mut decoder.bytes(None), writer, Quotes::Hex),
+    }
 }
 
 /// Shows a text string after its header, as [`show_bytes`] does.
@@ -114,75 +124,73 @@ fn show_text_bodies<R: Read, W: Write>(
         result (sides decoder.new writer.new) }
     ensures moves_on { MovesOn R.Read decoder.old decoder.new }
 {
-    let mut segments = decoder.text(len);
-    show_segments(&mut segments, writer, Quotes::Text, len.is_none(), mark)
+    match len {
+        Some(length) => {
+            let place = decoder.offset() - Header::Text(len).title_len();
+            let body = Body { length, place };
+            show_definite::<R, W, Text>(decoder, writer, body, Quotes::Text, mark)
+        }
+        None => show_segments(&mut decoder.text(None), writer, Quotes::Text),
+    }
 }
 
-/// Shows the segments of a string from its beginning. Those of the indefinite form stand in brackets.
+/// Shows the segments of a string of the indefinite form from its beginning, in brackets.
 #[tactic(auto, using(crate::proofs::StringShowLaws::text_start))]
 fn show_segments<R: Read, W: Write, P: Chunked>(
     segments: &mut Segments<'_, R, P>,
     writer: &mut W,
     quotes: Quotes,
-    is_open: bool,
-    mark: Mark,
 ) -> Result<(), DiagError<R::Error, W::Error>>
     requires fresh { IsAtBeginning segments.old }
     requires kind { quotes ≡ kind_quotes P.kind }
-    ensures reads { (opened : AnyDecoder R) (len : Option ℕ) → IsInRange (kind_header P.kind len)
-        → waiting_of opened ≡ None → TakesBack R.Read opened (kind_header P.kind len) (string_decoder segments.old)
+    ensures reads { (opened : AnyDecoder R) → IsInRange (kind_header P.kind None) → waiting_of opened ≡ None
+        → TakesBack R.Read opened (kind_header P.kind None) (string_decoder segments.old)
         → string_spelling segments.old ≡ spelling_of opened
-        → OnString (λ answer. SkipsString R.Read P.kind len BUFFER_SIZE opened answer (string_decoder segments.new)) result }
+        → OnString (λ answer. SkipsString R.Read P.kind None BUFFER_SIZE opened answer (string_decoder segments.new))
+        result }
     ensures moves_on { MovesOn R.Read (string_decoder segments.old) (string_decoder segments.new) }
-    ensures text { (opened : AnyDecoder R) (len : Option ℕ) → IsInRange (kind_header P.kind len)
-        → waiting_of opened ≡ None → TakesBack R.Read opened (kind_header P.kind len) (string_decoder segments.old)
-        → is_open ≡ is_indefinite len → ShowsString R.Read W.Write P.kind quotes len mark BUFFER_SIZE
-        (sides opened writer.old) result (sides (string_decoder segments.new) writer.new) }
+    ensures text { (opened : AnyDecoder R) (mark : AnyMark) → IsInRange (kind_header P.kind None)
+        → waiting_of opened ≡ None → TakesBack R.Read opened (kind_header P.kind None) (string_decoder segments.old)
+        → ShowsString R.Read W.Write P.kind quotes None mark BUFFER_SIZE (sides opened writer.old) result
+        (sides (string_decoder segments.new) writer.new) }
     ensures same_reference { string_reference segments.new ≡ string_reference segments.old }
 {
     let mut is_first = true;
     'segments: loop {
         let Some(body) = segments.advance()? else {
-            return close(writer, quotes, is_open, is_first, mark);
+            return close(writer, quotes, is_first);
         };
-        open(writer, is_open, is_first)?;
+        open(writer, is_first)?;
         show_body(segments, writer, body, quotes)?;
         is_first = false;
     }
 }
 
-/// Writes the text before a segment.
-fn open<E, W: Write>(
-    writer: &mut W,
-    is_open: bool,
-    is_first: bool,
-) -> Result<(), DiagError<E, W::Error>>
+/// Writes the text before a string within an open.
+fn open<E, W: Write>(writer: &mut W, is_first: bool) -> Result<(), DiagError<E, W::Error>>
     ensures writing { IfErr result IsWriting }
-    ensures written { ShowsText W.Write (Some (lead_text is_open is_first)) writer.old result writer.new }
+    ensures written { ShowsText W.Write (Some (lead_text true is_first)) writer.old result writer.new }
 {
-    match (is_open, is_first) {
-        (false, _) => Ok(()),
-        (true, true) => say(writer, b"(_ "),
-        (true, false) => say(writer, b", "),
+    if is_first {
+        say(writer, b"(_ ")
+    } else {
+        say(writer, b", ")
     }
 }
 
-/// Writes the text after the last segment: in the definite form the mark of the title. If a string of the indefinite
-/// form has no segment, its quotes and an underscore show its kind.
+/// Writes the text after the last string within an open. If there is none, the quotes and an underscore show the kind.
 fn close<E, W: Write>(
     writer: &mut W,
     quotes: Quotes,
-    is_open: bool,
     is_empty: bool,
-    mark: Mark,
 ) -> Result<(), DiagError<E, W::Error>>
     ensures writing { IfErr result IsWriting }
-    ensures written { ShowsText W.Write (Some (end_text is_open quotes mark is_empty)) writer.old result writer.new }
+    ensures written { ShowsText W.Write (Some (end_text true quotes Absent is_empty)) writer.old result writer.new }
 {
-    match (is_open, is_empty) {
-        (false, _) => say_mark(writer, mark),
-        (true, true) => say(writer, quotes.none()),
-        (true, false) => say(writer, b")"),
+    if is_empty {
+        say(writer, quotes.none())
+    } else {
+        say(writer, b")")
     }
 }
 

@@ -12,14 +12,14 @@ ghost use Rattle.cbor_diag.specs.OpenShows.{ShowsChunk, ShowsOpen};
 ghost use Rattle.cbor_diag.specs.Showing.{OnString};
 ghost use Rattle.cbor_diag.specs.StringShows.{ShowsBody, kind_quotes};
 
+use super::definite::show_alone;
 use super::quotes::Quotes;
-use super::{BUFFER_SIZE, close, open, say_mark, show_body};
+use super::{BUFFER_SIZE, close, open, say_mark};
 use crate::DiagError;
 use crate::marks::{Mark, pull_marked};
 use cbor_skip::SkipError;
 use ciborium_ll::io::{Read, Write};
 use ciborium_ll::{Body, Chunked, Decoder, Error, Header, Spelling};
-use ciborium_ll_decoder::seg::open_segments;
 
 /// How far a string of the indefinite form was shown.
 #[derive(Clone, Copy)]
@@ -96,14 +96,14 @@ fn show_next<R: Read, W: Write, P: Chunked>(
             })
         }
         Next::Open => {
-            open(writer, true, far.is_first)?;
+            open(writer, far.is_first)?;
             Ok(Far {
                 opens: far.opens + 1,
                 is_first: true,
             })
         }
         Next::Break => {
-            close(writer, quotes, true, far.is_first, Mark::Absent)?;
+            close(writer, quotes, far.is_first)?;
             Ok(Far {
                 opens: far.opens - 1,
                 is_first: false,
@@ -148,26 +148,7 @@ fn show_chunk<R: Read, W: Write, P: Chunked>(
         (sides decoder.old writer.old) result (sides decoder.new writer.new) }
     ensures moves_on { MovesOn R.Read decoder.old decoder.new }
 {
-    open::<R::Error, W>(writer, true, is_first)?;
+    open::<R::Error, W>(writer, is_first)?;
     show_alone::<R, W, P>(decoder, writer, body, quotes)?;
     say_mark(writer, mark)
-}
-
-/// Shows this body in quotes.
-fn show_alone<R: Read, W: Write, P: Chunked>(
-    decoder: &mut Decoder<R>,
-    writer: &mut W,
-    body: Body,
-    quotes: Quotes,
-) -> Result<(), DiagError<R::Error, W::Error>>
-    requires none_waits { waiting_of decoder.old ≡ None }
-    requires kind { quotes ≡ kind_quotes P.kind }
-    ensures reads { OnString (λ answer. EndsBody R.Read P.kind [] body.length BUFFER_SIZE body.place decoder.old answer
-        decoder.new) result }
-    ensures text { ShowsBody R.Read W.Write P.kind body.length BUFFER_SIZE body.place quotes
-        (sides decoder.old writer.old) result (sides decoder.new writer.new) }
-    ensures moves_on { MovesOn R.Read decoder.old decoder.new }
-{
-    let mut segments = open_segments::<R, P>(decoder);
-    show_body(&mut segments, writer, body, quotes)
 }

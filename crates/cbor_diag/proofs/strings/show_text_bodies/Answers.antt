@@ -1,21 +1,20 @@
-use Rattle.std.proofs.Common.{rules}
+use Rattle.std.proofs.Common.{None, rules}
 use Rattle.ciborium_ll.specs.Types.Header.TheVariants as h
 use Rattle.ciborium_ll.specs.Strings.{Text}
 use Rattle.cbor_diag.specs.declared.strings.quotes.Quotes.TheVariants as q
 use Rattle.cbor_diag.proofs.MoveLaws.{moved_back, string_rises}
 use Rattle.cbor_diag.proofs.strings.show_text_bodies.Goals as goal
 
-pub returns-clause-text : goal.returns-clause-text
-returns-clause-text g c = search (rules, c.show_segments.ensures.text c.args.decoder.now c.args.len)
+pub returns-in-None-clause-text : goal.returns-in-None-clause-text
+returns-in-None-clause-text g c = search (rules, c.show_segments.ensures.text c.args.decoder.now c.args.mark)
 
-pub returns-clause-moves_on : goal.returns-clause-moves_on
-returns-clause-moves_on g c =
-    let rises = string_rises g.R.Read g.W.Write Text q.Text c.args.len c.args.mark 64 _ _ c.show_segments.result
-    (returns-clause-text g c) in
+pub returns-in-None-clause-moves_on : goal.returns-in-None-clause-moves_on
+returns-in-None-clause-moves_on g c =
+    let rises = string_rises g.R.Read g.W.Write Text q.Text None c.args.mark 64 _ _ c.show_segments.result
+    (c.show_segments.ensures.text c.args.decoder.now c.args.mark (search rules) (search rules) (search rules)) in
     search (
       rules,
       rises,
       c.show_segments.ensures.moves_on,
-      moved_back g.R.Read (h.Text c.args.len) c.args.decoder.now
-          c.text-segments.result.decoder.now,
+      moved_back g.R.Read (h.Text None) c.args.decoder.now c.text.result.decoder.now,
     )

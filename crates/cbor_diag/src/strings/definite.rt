@@ -1,0 +1,141 @@
+//! Shows strings of a definite length. One read takes a short body.
+
+ghost use Rattle.std.specs.Prelude.{◌≡◌, ◌+◌, ◌-◌, ◌<◌, ◌≤◌, [], None, Some, MatchResult, length};
+ghost use Rattle.ciborium_ll.specs.Decoding.{MovesOn, ReadsPast, offset_limit, offset_of, waiting_of};
+ghost use Rattle.ciborium_ll.specs.Finishing.{EndsBody};
+ghost use Rattle.ciborium_ll.specs.Sides.{sides};
+ghost use Rattle.ciborium_ll.specs.Skipping.{SkipsString};
+ghost use Rattle.ciborium_ll.specs.Strings.{IsWritable, kind_header};
+ghost use Rattle.ciborium_ll.specs.Title.{title_len};
+ghost use Rattle.ciborium_ll_decoder.specs.Finishing.{StopsReading};
+ghost use Rattle.cbor_diag.specs.Showing.{OnString};
+ghost use Rattle.cbor_diag.specs.StringShows.{CopiesQuoted, ShowsBody, ShowsString, kind_quotes};
+ghost use Rattle.cbor_diag.specs.declared.strings.TheConstants.{BUFFER_SIZE};
+
+use super::held::Held;
+use super::quotes::{Quotes, show_quoted};
+use super::{BUFFER_SIZE, copy_quoted, say_mark};
+use crate::DiagError;
+use crate::marks::Mark;
+use crate::put::say;
+use cbor_skip::SkipError;
+use ciborium_ll::io::{Read, Write};
+use ciborium_ll::{Body, Chunked, Decoder, Error, RecodeError};
+use ciborium_ll_decoder::seg::open_segments;
+
+/// Shows a string of a definite length after its header: its body, and the mark of its title.
+pub(super) fn show_definite<R: Read, W: Write, P: Chunked>(
+    decoder: &mut Decoder<R>,
+    writer: &mut W,
+    body: Body,
+    quotes: Quotes,
+    mark: Mark,
+) -> Result<(), DiagError<R::Error, W::Error>>
+    requires none_waits { waiting_of decoder.old ≡ None }
+    requires kind { quotes ≡ kind_quotes P.kind }
+    requires place { body.place ≡ offset_of decoder.old - title_len (kind_header P.kind (Some body.length)) }
+    ensures reads { OnString (λ answer. SkipsString R.Read P.kind (Some body.length) BUFFER_SIZE decoder.old answer
+        decoder.new) result }
+    ensures text { ShowsString R.Read W.Write P.kind quotes (Some body.length) mark BUFFER_SIZE
+        (sides decoder.old writer.old) result (sides decoder.new writer.new) }
+    ensures moves_on { MovesOn R.Read decoder.old decoder.new }
+{
+    show_alone::<R, W, P>(decoder, writer, body, quotes)?;
+    say_mark(writer, mark)
+}
+
+/// Shows this body in quotes.
+pub(super) fn show_alone<R: Read, W: Write, P: Chunked>(
+    decoder: &mut Decoder<R>,
+    writer: &mut W,
+    body: Body,
+    quotes: Quotes,
+) -> Result<(), DiagError<R::Error, W::Error>>
+    requires none_waits { waiting_of decoder.old ≡ None }
+    requires kind { quotes ≡ kind_quotes P.kind }
+    ensures reads { OnString (λ answer. EndsBody R.Read P.kind [] body.length BUFFER_SIZE body.place decoder.old answer
+        decoder.new) result }
+    ensures text { ShowsBody R.Read W.Write P.kind body.length BUFFER_SIZE body.place quotes
+        (sides decoder.old writer.old) result (sides decoder.new writer.new) }
+    ensures moves_on { MovesOn R.Read decoder.old decoder.new }
+{
+    say::<R::Error, W>(writer, quotes.opening())?;
+    match copy_alone::<R, W, P>(decoder, writer, body, quotes) {
+        Ok(()) => {}
+        Err(RecodeError::Read(error)) => return Err(DiagError::Read(SkipError::Read(error))),
+        Err(RecodeError::Write(fault)) => return Err(DiagError::Write(fault)),
+    }
+    say(writer, quotes.closing())
+}
+
+/// Shows the text between the quotes of this body.
+fn copy_alone<R: Read, W: Write, P: Chunked>(
+    decoder: &mut Decoder<R>,
+    writer: &mut W,
+    body: Body,
+    quotes: Quotes,
+) -> Result<(), RecodeError<R::Error, W::Error>>
+    requires none_waits { waiting_of decoder.old ≡ None }
+    requires kind { quotes ≡ kind_quotes P.kind }
+    ensures copied { CopiesQuoted R.Read W.Write P.kind body.length BUFFER_SIZE body.place quotes
+        (sides decoder.old writer.old) result (sides decoder.new writer.new) }
+    ensures moves_on { MovesOn R.Read decoder.old decoder.new }
+{
+    if body.length <= BUFFER_SIZE && decoder.offset() <= usize::MAX - BUFFER_SIZE {
+        return copy_short::<R, W, P>(decoder, writer, body, quotes);
+    }
+    let mut segments = open_segments::<R, P>(decoder);
+    copy_quoted(&mut segments, writer, body, quotes)
+}
+
+/// Shows the text between the quotes of this body, which a buffer holds.
+fn copy_short<R: Read, W: Write, P: Chunked>(
+    decoder: &mut Decoder<R>,
+    writer: &mut W,
+    body: Body,
+    quotes: Quotes,
+) -> Result<(), RecodeError<R::Error, W::Error>>
+    requires none_waits { waiting_of decoder.old ≡ None }
+    requires kind { quotes ≡ kind_quotes P.kind }
+    requires short { body.length ≤ BUFFER_SIZE }
+    requires fits { offset_of decoder.old + BUFFER_SIZE < offset_limit }
+    ensures copied { CopiesQuoted R.Read W.Write P.kind body.length BUFFER_SIZE body.place quotes
+        (sides decoder.old writer.old) result (sides decoder.new writer.new) }
+    ensures moves_on { MovesOn R.Read decoder.old decoder.new }
+{
+    let mut memory = [0; BUFFER_SIZE];
+    let bytes = &mut memory[..body.length];
+    read_short::<R, P>(decoder, body, bytes)?;
+    let mut held = Held::Nothing;
+    match show_quoted(writer, quotes, &mut held, bytes) {
+        Ok(()) => Ok(()),
+        Err(fault) => Err(RecodeError::Write(fault)),
+    }
+}
+
+/// Reads a body whole. An empty body takes no read.
+fn read_short<R: Read, P: Chunked>(
+    decoder: &mut Decoder<R>,
+    body: Body,
+    bytes: &mut [u8],
+) -> Result<(), Error<R::Error>>
+    requires none_waits { waiting_of decoder.old ≡ None }
+    requires whole { length bytes.old ≡ body.length }
+    requires short { body.length ≤ BUFFER_SIZE }
+    requires fits { offset_of decoder.old + BUFFER_SIZE < offset_limit }
+    ensures reads { MatchResult result
+        (λ done. (length bytes.new ≡ body.length) × IsWritable P.kind bytes.new
+        × ReadsPast R.Read decoder.old bytes.new decoder.new)
+        (λ error. StopsReading R.Read P.kind [] body.length [] body.place body.length decoder.old error decoder.new) }
+    ensures moves_on { MovesOn R.Read decoder.old decoder.new }
+{
+    if bytes.is_empty() {
+        return Ok(());
+    }
+    decoder.read_exact(bytes)?;
+    if P::is_body(bytes) {
+        Ok(())
+    } else {
+        Err(Error::Syntax(body.place))
+    }
+}
