@@ -1,7 +1,8 @@
 -- A body that is copied to a quoting writer, and shown in quotes.
 use Rattle.std.proofs.Common.{◌≡◌, ◌∙◌, ℕ, ◌+◌, List, [], ◌++◌, drop, Option, Some, None, Result, Ok, Err, ap, arith}
-use Rattle.std.proofs.Common.{◌≤◌, append_assoc, append-nil, length, length-append, refl}
-use Rattle.std.proofs.lemmas.List.{take-append-drop}
+use Rattle.std.proofs.Common.{◌-◌, ◌<◌, ◌≤◌, append_assoc, append-nil, inl, length, length-append, length-drop, refl}
+use Rattle.std.proofs.Common.{subst, sym}
+use Rattle.std.proofs.lemmas.List.{drop_all, take-append-drop}
 use Rattle.ciborium_ll.specs.Types.Read.{Ghosts as Reader}
 use Rattle.ciborium_ll.specs.Types.Write.{Ghosts as Writer}
 use Rattle.ciborium_ll.specs.Types.Decoder.{Decoder}
@@ -11,7 +12,8 @@ use Rattle.ciborium_ll.specs.Types.RecodeError.TheVariants as r
 use Rattle.ciborium_ll.specs.Transfer.{Target}
 use Rattle.ciborium_ll.specs.Decoding.{ReadsPast}
 use Rattle.ciborium_ll_decoder.specs.Finishing.{StopsReading}
-use Rattle.ciborium_ll.specs.Strings.{IsWritable, Kind}
+use Rattle.ciborium_ll.specs.Types.Error.TheVariants as e
+use Rattle.ciborium_ll.specs.Strings.{Bytes, IsWritable, Kind, Text, most_kept}
 use Rattle.ciborium_ll.specs.Encoding.{WritesAll, WritesFront}
 use Rattle.ciborium_ll.specs.Recoding.{BodyUnwritten, CopiesBody}
 use Rattle.ciborium_ll.specs.Sides.{sides}
@@ -22,14 +24,16 @@ use Rattle.cbor_diag.specs.Notation.{body_text}
 use Rattle.cbor_diag.specs.Passing.{passed_text}
 use Rattle.ciborium_ll.proofs.DecodingLaws.{ReadsPast-none}
 use Rattle.ciborium_ll.proofs.PiecesWritten.{writes_nothing}
-use Rattle.ciborium_ll_text.proofs.FrontLaws.{IsStuck-nil}
+use Rattle.ciborium_ll_text.specs.Text.{IsCharacters, IsStuck}
+use Rattle.ciborium_ll_text.proofs.FrontLaws.{IsStuck-nil, IsStuck-rest}
+use Rattle.ciborium_ll_decoder.proofs.WholeBodyLaws.{front_of_all}
 use Rattle.ciborium_ll_decoder.proofs.BodyLaws.{writable_nil}
 use Rattle.cbor_diag.proofs.QuoteLaws.{wrote_both, wrote_first}
 use Rattle.cbor_skip.specs.declared.SkipError.TheVariants as s
 use Rattle.cbor_diag.specs.declared.DiagError.{DiagError}
 use Rattle.cbor_diag.specs.declared.DiagError.TheVariants as d
 use Rattle.cbor_diag.specs.Showing.{ShowsText}
-use Rattle.cbor_diag.specs.StringShows.{BodyUnshown, CopiesQuoted, ShowsBody, closing, opening}
+use Rattle.cbor_diag.specs.StringShows.{BodyUnshown, CopiesQuoted, IsShownFront, ShowsBody, closing, opening}
 use Rattle.cbor_diag.proofs.PassedLaws.{body_text-nil, passed_body, passed_text-append}
 use Rattle.cbor_diag.proofs.QuotedLaws.{front_longer}
 
@@ -88,6 +92,44 @@ module _ {R E W F V : Type 0} (source : Reader R E) (sink : Writer W F) (given :
         record { ends = copied.ends; written = quoted_front _ copied.ends.part.sound copied.written }
     through_quotes (Err (r.Write fault)) stops = quoted_part stops
 
+-- ---- the front of a body that is shown
+
+front_parts : (kind : Kind) (bytes front : List ℕ) → IsShownFront kind bytes front
+    → bytes ≡ front ++ drop (length front) bytes
+front_parts Bytes bytes front shown =
+    rw shown (sym (ap (λ (z : List ℕ). bytes ++ z) (drop_all (length bytes) bytes (omega arith)) ∙ append-nil bytes))
+front_parts Text bytes front shown = shown.parts
+
+front_sound : (kind : Kind) (bytes front : List ℕ) → IsShownFront kind bytes front → IsWritable kind front
+front_sound Bytes bytes front shown = tt
+front_sound Text bytes front shown = shown.text
+
+front_stuck : (kind : Kind) (bytes front : List ℕ) → IsShownFront kind bytes front
+    → IsStuck (drop (length front) bytes)
+front_stuck Bytes bytes front shown =
+    subst IsStuck (sym (drop_all (length front) bytes (omega (arith, ap length shown)))) IsStuck-nil
+front_stuck Text bytes front shown = IsStuck-rest bytes front (drop (length front) bytes) shown
+
+front_few : (kind : Kind) (bytes front : List ℕ) → IsShownFront kind bytes front → length bytes - length front ≤ 3
+    → length (drop (length front) bytes) ≤ most_kept kind
+front_few Bytes bytes front shown few = omega (arith, length-drop (length front) bytes, ap length shown)
+front_few Text bytes front shown few = omega (arith, length-drop (length front) bytes, few)
+
+front_whole : (kind : Kind) (bytes front : List ℕ) → IsShownFront kind bytes front
+    → length bytes - length front ≡ 0 → front ≡ bytes
+front_whole kind bytes front shown none =
+    sym (front_parts kind bytes front shown
+    ∙ (ap (λ (z : List ℕ). front ++ z) (drop_all (length front) bytes (omega (arith, none))) ∙ append-nil front))
+
+-- A front that is no whole body is that of a text, and the body is none.
+front_cut : (kind : Kind) (bytes front : List ℕ) → IsShownFront kind bytes front → length front < length bytes
+    → (kind ≡ Text) × (IsCharacters bytes → ⊥)
+front_cut Bytes bytes front shown cut = absurd (omega (arith, ap length shown, cut))
+front_cut Text bytes front shown cut = (
+  refl,
+  λ whole. omega (arith, front_of_all bytes front (drop (length front) bytes) shown whole, cut),
+)
+
 module _ {R E W F : Type 0} (source : Reader R E) (sink : Writer W F) (kind : Kind) (quotes : Quotes)
     (len room place : ℕ) (old new : Decoder R) (w : W) (is : quotes ≡ kind_quotes kind) where
   -- If the one read of a body failed, or gave no text, nothing is written.
@@ -114,28 +156,95 @@ module _ {R E W F : Type 0} (source : Reader R E) (sink : Writer W F) (kind : Ki
     written = rw (body_text-nil quotes) (writes_nothing sink w);
   }
 
-  module _ (bytes : List ℕ) (w' : W) (all : length bytes ≡ len) (sound : IsWritable kind bytes)
-      (passed : ReadsPast source old bytes new) where
+  module _ (bytes front : List ℕ) (w' : W) (all : length bytes ≡ len) (passed : ReadsPast source old bytes new)
+      (shown : IsShownFront kind bytes front) where
     -- A body that one read gave was copied in quotes.
-    pub short_shown : WritesAll sink w (passed_text quotes h.Nothing bytes) w'
+    pub short_shown : length bytes - length front ≡ 0 → WritesAll sink w (passed_text quotes h.Nothing front) w'
         → CopiesQuoted source sink kind len room place quotes (sides old w) (Ok (tt {0})) (sides new w')
-    short_shown written = record {
-      ends = record { read = bytes; all = all; sound = sound; passed = passed };
-      written = rw (← passed_body kind quotes bytes is sound) written;
-    }
+    short_shown none written =
+        let whole = front_whole kind bytes front shown none in
+        let sound = front_sound kind bytes front shown in
+        record {
+          ends = record { read = front; all = ap length whole ∙ all; sound = sound; passed = rw whole passed };
+          written = rw (← passed_body kind quotes front is sound) written;
+        }
 
     -- If the writer fails within it, it wrote a beginning.
-    pub short_unshown : (fault : F) → WritesFront sink w (passed_text quotes h.Nothing bytes) w'
+    pub short_unshown : (fault : F) → length bytes - length front ≤ 3
+        → WritesFront sink w (passed_text quotes h.Nothing front) w'
         → CopiesQuoted source sink kind len room place quotes (sides old w) (Err (r.Write fault)) (sides new w')
-    short_unshown fault front = record {
-      bytes = bytes;
-      kept = [];
-      passed = rw append-nil passed;
-      within = omega (arith, all);
-      few = omega arith;
-      sound = sound;
-      stopped = rw (← passed_body kind quotes bytes is sound) front;
-    }
+    short_unshown fault few stopped =
+        let rest = drop (length front) bytes in
+        let sound = front_sound kind bytes front shown in
+        let parts = front_parts kind bytes front shown in
+        let count = length-append front rest in
+        record {
+          bytes = front;
+          kept = rest;
+          passed = rw (sym parts) passed;
+          within = omega (arith, all, ap length parts, count);
+          few = front_few kind bytes front shown few;
+          sound = sound;
+          stopped = rw (← passed_body kind quotes front is sound) stopped;
+        }
+
+    -- If it is no text, the read stops. Nothing is written of it,
+    pub short_refused : length front < length bytes → len ≤ room
+        → CopiesQuoted source sink kind len room place quotes (sides old w) (Err (r.Read (e.Syntax place)))
+        (sides new w)
+    short_refused cut held =
+        let damage = front_cut kind bytes front shown cut in
+        short_stops (e.Syntax place) held (
+          refl,
+          record {
+            textual = damage.0;
+            last = bytes;
+            all = all;
+            no_text = inl (all, damage.1);
+            passed = passed;
+          },
+        )
+
+    -- or its front is.
+    pub short_damaged : length front < length bytes → length bytes - length front ≤ 3 → len ≤ room
+        → WritesAll sink w (passed_text quotes h.Nothing front) w'
+        → CopiesQuoted source sink kind len room place quotes (sides old w) (Err (r.Read (e.Syntax place)))
+        (sides new w')
+    short_damaged cut few held written =
+        let rest = drop (length front) bytes in
+        let sound = front_sound kind bytes front shown in
+        let parts = front_parts kind bytes front shown in
+        let count = length-append front rest in
+        let damage = front_cut kind bytes front shown cut in
+        record {
+          ends = record {
+            between = new;
+            part = record {
+              read = bytes;
+              front = front;
+              left = rest;
+              parts = parts;
+              few = front_few kind bytes front shown few;
+              stuck = front_stuck kind bytes front shown;
+              sound = sound;
+              within = omega (arith, all);
+              passed = passed;
+            };
+            count = 0;
+            filled = omega (arith, all, ap length parts, count, held);
+            stops = (
+              refl,
+              record {
+                textual = damage.0;
+                last = [];
+                all = refl;
+                no_text = rw append-nil (inl (all, damage.1));
+                passed = ReadsPast-none source new;
+              },
+            );
+          };
+          written = rw (← passed_body kind quotes front is sound) written;
+        }
 
 module _ {R E W F : Type 0} (source : Reader R E) (sink : Writer W F) (kind : Kind) (quotes : Quotes)
     (len room place : ℕ) (old : Decoder R) (w : W) where

@@ -1,5 +1,5 @@
 -- The text of a string in diagnostic notation (RFC 8949, section 8), and the text of a string that was read in part.
-use Rattle.std.specs.Prelude.{◌≡◌, ◌⊎◌, ℕ, ◌+◌, ◌≤◌, Bool, true, false, List, [], ◌∷◌, ◌++◌, length, codes}
+use Rattle.std.specs.Prelude.{◌≡◌, ◌⊎◌, ℕ, ◌+◌, ◌≤◌, Bool, true, false, List, [], ◌∷◌, ◌++◌, drop, length, codes}
 use Rattle.std.specs.Prelude.{Option, Some, None, Result, Ok, Err}
 use Rattle.ciborium_ll.specs.Types.Read.{Ghosts as Reader}
 use Rattle.ciborium_ll.specs.Types.Write.{Ghosts as Writer}
@@ -11,6 +11,7 @@ use Rattle.ciborium_ll.specs.Types.RecodeError.TheVariants as r
 use Rattle.ciborium_ll.specs.Title.{IsTitle, shortest_title}
 use Rattle.ciborium_ll.specs.Strings.{Kind, Bytes, Text, kind_header, IsString, IsWritable, most_kept}
 use Rattle.ciborium_ll.specs.Faults.{IsInside}
+use Rattle.ciborium_ll_text.specs.Text.{IsFront}
 use Rattle.ciborium_ll.specs.Decoding.{ReadsPast, DecoderPullAnswer, PullsTitle}
 use Rattle.ciborium_ll.specs.Encoding.{WritesAll, WritesFront}
 use Rattle.ciborium_ll.specs.Finishing.{ReadsRest, StopsRest}
@@ -54,6 +55,12 @@ quoted_body quotes body = (opening quotes ++ body_text quotes body) ++ closing q
 -- A body in quotes whose end is missing: `h'01` for the byte `01`.
 abbrev pub begun_text : Quotes → List ℕ → List ℕ
 begun_text quotes front = opening quotes ++ body_text quotes front
+
+-- The front of a body that is shown: the whole body of a byte string, and of a text the longest front that is UTF-8.
+-- Of `61 ff` it is `61`.
+abbrev pub IsShownFront : Kind → List ℕ → List ℕ → Type 0
+IsShownFront Bytes bytes front = front ≡ bytes
+IsShownFront Text bytes front = IsFront bytes front (drop (length front) bytes)
 
 -- ---- one body
 

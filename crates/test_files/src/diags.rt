@@ -9,7 +9,7 @@ use tool_verdicts::verdict::Verdict;
 
 // Options, digits, and the text that is written. If there is a fault, the text before it ends its line. In the last row
 // the 64th byte of the body begins a character that is escaped.
-static TEXTS: [(&str, &str, &str); 29] = [
+static TEXTS: [(&str, &str, &str); 31] = [
     ("diag", "", ""),
     ("diag", "82 1903e8 6161", "[1000, \"a\"]\n"),
     ("diag", "01 f6 8102", "1\nnull\n[2]\n"),
@@ -51,6 +51,8 @@ static TEXTS: [(&str, &str, &str); 29] = [
     ("diag", "ff", ""),
     ("diag", "8243010203ff", "[h'010203'\n"),
     ("diag", "6261", "\"\n"),
+    ("diag", "81656162ff6364", "[\"ab\n"),
+    ("diag", "81666162ff636465", "[\"\n"),
     ("diag --depth 0", "0080", "0\n"),
     ("diag --depth 1", "8180", "[\n"),
     ("diag --strict", "820a180a", "[10\n"),

@@ -5,11 +5,11 @@ ghost use Rattle.ciborium_ll.specs.Decoding.{MovesOn, ReadsPast, offset_limit, o
 ghost use Rattle.ciborium_ll.specs.Finishing.{EndsBody};
 ghost use Rattle.ciborium_ll.specs.Sides.{sides};
 ghost use Rattle.ciborium_ll.specs.Skipping.{SkipsString};
-ghost use Rattle.ciborium_ll.specs.Strings.{IsWritable, kind_header};
+ghost use Rattle.ciborium_ll.specs.Strings.{Kind, kind_header};
 ghost use Rattle.ciborium_ll.specs.Title.{title_len};
 ghost use Rattle.ciborium_ll_decoder.specs.Finishing.{StopsReading};
 ghost use Rattle.cbor_diag.specs.Showing.{OnString};
-ghost use Rattle.cbor_diag.specs.StringShows.{CopiesQuoted, ShowsBody, ShowsString, kind_quotes};
+ghost use Rattle.cbor_diag.specs.StringShows.{CopiesQuoted, IsShownFront, ShowsBody, ShowsString, kind_quotes};
 ghost use Rattle.cbor_diag.specs.declared.strings.TheConstants.{BUFFER_SIZE};
 
 use super::held::Held;
@@ -22,6 +22,8 @@ use cbor_skip::SkipError;
 use ciborium_ll::io::{Read, Write};
 use ciborium_ll::{Body, Chunked, Decoder, Error, RecodeError};
 use ciborium_ll_decoder::seg::open_segments;
+use ciborium_ll_grammar::limits::MOST_KEPT;
+use ciborium_ll_text::state::{State, text_front};
 
 /// Shows a string of a definite length after its header: its body, and the mark of its title.
 pub(super) fn show_definite<R: Read, W: Write, P: Chunked>(
@@ -88,7 +90,8 @@ fn copy_alone<R: Read, W: Write, P: Chunked>(
     copy_quoted(&mut segments, writer, body, quotes)
 }
 
-/// Shows the text between the quotes of this body, which a buffer holds.
+/// Shows the text between the quotes of this body, which a buffer holds. Of a text that is no UTF-8 it shows the
+/// longest front that is, unless more than three bytes follow it.
 fn copy_short<R: Read, W: Write, P: Chunked>(
     decoder: &mut Decoder<R>,
     writer: &mut W,
@@ -106,10 +109,16 @@ fn copy_short<R: Read, W: Write, P: Chunked>(
     let mut memory = [0; BUFFER_SIZE];
     let bytes = &mut memory[..body.length];
     read_short::<R, P>(decoder, body, bytes)?;
+    let front = shown_front(quotes, bytes);
+    let rest = bytes.len() - front.len();
+    if rest > MOST_KEPT {
+        return Err(RecodeError::Read(Error::Syntax(body.place)));
+    }
     let mut held = Held::Nothing;
-    match show_quoted(writer, quotes, &mut held, bytes) {
-        Ok(()) => Ok(()),
+    match show_quoted(writer, quotes, &mut held, front) {
         Err(fault) => Err(RecodeError::Write(fault)),
+        Ok(()) if rest > 0 => Err(RecodeError::Read(Error::Syntax(body.place))),
+        Ok(()) => Ok(()),
     }
 }
 
@@ -124,18 +133,23 @@ fn read_short<R: Read, P: Chunked>(
     requires short { body.length ≤ BUFFER_SIZE }
     requires fits { offset_of decoder.old + BUFFER_SIZE < offset_limit }
     ensures reads { MatchResult result
-        (λ done. (length bytes.new ≡ body.length) × IsWritable P.kind bytes.new
-        × ReadsPast R.Read decoder.old bytes.new decoder.new)
+        (λ done. (length bytes.new ≡ body.length) × ReadsPast R.Read decoder.old bytes.new decoder.new)
         (λ error. StopsReading R.Read P.kind [] body.length [] body.place body.length decoder.old error decoder.new) }
     ensures moves_on { MovesOn R.Read decoder.old decoder.new }
 {
     if bytes.is_empty() {
         return Ok(());
     }
-    decoder.read_exact(bytes)?;
-    if P::is_body(bytes) {
-        Ok(())
-    } else {
-        Err(Error::Syntax(body.place))
+    decoder.read_exact(bytes)
+}
+
+/// Returns the front of a body that may be shown: of a text the longest front that is UTF-8, and otherwise the body.
+fn shown_front(quotes: Quotes, bytes: &[u8]) -> &[u8]
+    ensures within { length result.now ≤ length bytes.now }
+    ensures front { (kind : Kind) → quotes ≡ kind_quotes kind → IsShownFront kind bytes.now result.now }
+{
+    match quotes {
+        Quotes::Text => text_front(bytes, 0, State::Between).0,
+        _ => bytes,
     }
 }
