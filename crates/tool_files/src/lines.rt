@@ -15,7 +15,7 @@ pub(crate) struct Lines<W> {
     /// How many bytes the whole lines have.
     whole: usize,
     writer: W,
-    /// Why a flush failed. The next call that ends a line fails so.
+    /// Why a flush failed. The next write of lines fails so.
     fault: Option<io::Error>,
 }
 
@@ -34,7 +34,7 @@ impl<W: io::Write> Lines<W> {
     ///
     /// # Errors
     ///
-    /// The error of the writer, or of a flush since the last line. It says also that there is no memory for the line.
+    /// The error of the writer, or of a flush since the last write. It says also that there is no memory for the line.
     pub(crate) fn end_line(&mut self) -> io::Result<()> {
         self.text.push('\n')?;
         self.whole = self.text.len();
@@ -48,7 +48,7 @@ impl<W: io::Write> Lines<W> {
     ///
     /// # Errors
     ///
-    /// The error of the writer, or of a flush since the last line.
+    /// The error of the writer, or of a flush since the last write.
     pub(crate) fn finish(&mut self) -> io::Result<()> {
         self.send()?;
         self.writer.flush()
@@ -75,7 +75,7 @@ impl<W: io::Write> io::Write for Lines<W> {
         self.writer.write(buf)
     }
 
-    /// Writes the whole lines, and flushes the writer. If that fails, the next line fails too.
+    /// Writes the whole lines, and flushes the writer. If that fails, the next write of lines fails too.
     fn flush(&mut self) -> io::Result<()> {
         match self.finish() {
             Ok(()) => Ok(()),
