@@ -4,13 +4,15 @@
 //! aside, and a call answers only that there is a fault.
 
 ghost use Rattle.std.specs.Prelude.{◌≡◌, ◌+◌, ◌≤◌, ◌<◌, ◌++◌, None, Some, IsTrue, IsOk, IsSome};
-ghost use Rattle.std.specs.Prelude.{IfSome, IfOk, OnOk, OnErr, [], length, take};
+ghost use Rattle.std.specs.Prelude.{IfSome, IfOk, OnOk, OnErr, [], length};
+ghost use Rattle.std.specs.Prelude.{◌%◌, ◌∷◌, ℕ, IfNone, slice_index, take};
 ghost use Rattle.std.specs.Io.KnownBytes.{Appends, Consumes, IsAtEnd, Keeps};
 ghost use Rattle.std.proofs.Common.{rules};
+ghost use Rattle.ciborium_ll_io.specs.declared.io.TheConstants.{AT_HAND};
 ghost use Rattle.ciborium_ll_io.specs.Transfer.{AppendsFront, AppendsPart, ConsumesPart, Shrinks};
 
 use crate::window::Window;
-use ciborium_ll_io::io::{Failures, Read, Write};
+use ciborium_ll_io::io::{AT_HAND, Failures, Read, Write};
 use ciborium_ll_streams::{ReadFault, WriteFault, write_calls};
 use std::io;
 
@@ -245,6 +247,29 @@ impl<'a, T: io::Read> Read for BufferedReader<'a, T> {
             return Ok(());
         }
         self.read_on(data)
+    }
+
+    /// Returns the next byte and the eight bytes after it, exactly if at least [`AT_HAND`] bytes were read ahead.
+    #[inline(always)]
+    fn read_at_hand(&mut self, lens: &[u8; 32]) -> Option<(u8, [u8; 8])>
+        // The trait's.
+        requires { (minor : ℕ) → minor < 32 → slice_index lens.now minor ≤ AT_HAND }
+        ensures bytes { IfSome result (λ found. Consumes (buffered_ahead T.remaining self.old)
+            (buffered_ahead T.remaining self.new) (take (slice_index lens.now (found.0 % 32)) (found.0 ∷ found.1))) }
+        ensures failures { buffered_read_failures self.new ≡ buffered_read_failures self.old }
+        ensures stays_steady { IsTrue (buffered_steady self.old) → IsTrue (buffered_steady self.new) }
+        ensures none { IfNone result (self.new ≡ self.old) }
+
+        // The reader's own.
+        ensures few { IfNone result (length (buffered_read_ahead self.old) < AT_HAND) }
+        ensures found { IfSome result (λ found. take AT_HAND (buffered_read_ahead self.old) ≡ found.0 ∷ found.1) }
+        ensures held { IfSome result (λ found. buffered_read_ahead self.old
+            ≡ take (slice_index lens.now (found.0 % 32)) (found.0 ∷ found.1) ++ buffered_read_ahead self.new) }
+        ensures source { buffered_source self.new ≡ buffered_source self.old }
+        ensures same { buffered_read_fault self.new ≡ buffered_read_fault self.old }
+        ensures capacity { buffered_read_capacity self.new ≡ buffered_read_capacity self.old }
+    {
+        self.window.take_at_hand(lens)
     }
 }
 

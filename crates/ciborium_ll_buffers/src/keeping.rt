@@ -2,12 +2,14 @@
 
 ghost use Rattle.std.specs.Prelude.{◌≡◌, ◌+◌, ◌≤◌, ◌<◌, ◌++◌, [], length, false, None, Some, IsOk, IsSome, IsTrue};
 ghost use Rattle.std.specs.Prelude.{IfSome, OnErr, OnOk};
+ghost use Rattle.std.specs.Prelude.{◌%◌, ◌∷◌, ℕ, IfNone, slice_index, take};
 ghost use Rattle.std.specs.Io.KnownBytes.{Consumes, IsAtEnd};
 ghost use Rattle.std.proofs.Common.{rules};
+ghost use Rattle.ciborium_ll_io.specs.declared.io.TheConstants.{AT_HAND};
 
 use crate::buffered::FaultKept;
 use crate::window::Window;
-use ciborium_ll_io::io::{Failures, Read};
+use ciborium_ll_io::io::{AT_HAND, Failures, Read};
 use ciborium_ll_streams::ReadFault;
 use std::io;
 
@@ -173,5 +175,28 @@ impl<'a, T: io::Read> Read for KeepingReader<'a, T> {
         }
         self.window.take(data);
         Ok(())
+    }
+
+    /// Returns the next byte and the eight bytes after it, exactly if at least [`AT_HAND`] bytes are held.
+    #[inline(always)]
+    fn read_at_hand(&mut self, lens: &[u8; 32]) -> Option<(u8, [u8; 8])>
+        // The trait's.
+        requires { (minor : ℕ) → minor < 32 → slice_index lens.now minor ≤ AT_HAND }
+        ensures bytes { IfSome result (λ found. Consumes (keeping_ahead T.remaining self.old)
+            (keeping_ahead T.remaining self.new) (take (slice_index lens.now (found.0 % 32)) (found.0 ∷ found.1))) }
+        ensures failures { keeping_failures self.new ≡ keeping_failures self.old }
+        ensures stays_steady { IsTrue (keeping_steady self.old) → IsTrue (keeping_steady self.new) }
+        ensures none { IfNone result (self.new ≡ self.old) }
+
+        // The reader's own.
+        ensures few { IfNone result (length (keeping_held self.old) < AT_HAND) }
+        ensures found { IfSome result (λ found. take AT_HAND (keeping_held self.old) ≡ found.0 ∷ found.1) }
+        ensures held { IfSome result (λ found. keeping_held self.old
+            ≡ take (slice_index lens.now (found.0 % 32)) (found.0 ∷ found.1) ++ keeping_held self.new) }
+        ensures source { keeping_source self.new ≡ keeping_source self.old }
+        ensures same { keeping_fault self.new ≡ keeping_fault self.old }
+        ensures capacity { keeping_capacity self.new ≡ keeping_capacity self.old }
+    {
+        self.window.take_at_hand(lens)
     }
 }

@@ -1,9 +1,11 @@
 //! Bytes that wait in a part of a slice.
 
 ghost use Rattle.std.specs.Prelude.{◌≡◌, ◌+◌, ◌≤◌, ◌<◌, ◌++◌, ℕ, List, [], IfOk, OnErr, length, take};
+ghost use Rattle.std.specs.Prelude.{◌%◌, ◌∷◌, IfNone, IfSome, slice_index};
 ghost use Rattle.std.specs.Io.KnownBytes.{Consumes, IsAtEnd, Keeps};
+ghost use Rattle.ciborium_ll_io.specs.declared.io.TheConstants.{AT_HAND};
 
-use ciborium_ll_io::io::copy_chunk;
+use ciborium_ll_io::io::{AT_HAND, copy_chunk};
 use std::io;
 
 /// Holds bytes that were read ahead, or are not yet written, in a slice that the caller lends.
@@ -80,6 +82,24 @@ impl<'a> Window<'a> {
     {
         copy_chunk(data, &self.held()[..data.len()]);
         self.skip(data.len());
+    }
+
+    /// Returns the first byte and the eight bytes after it, exactly if it holds at least [`AT_HAND`] bytes. It gives up
+    /// as many of them as `lens` has for the lower five bits of the first.
+    #[inline(always)]
+    pub(super) fn take_at_hand(&mut self, lens: &[u8; 32]) -> Option<(u8, [u8; 8])>
+        requires { (minor : ℕ) → minor < 32 → slice_index lens.now minor ≤ AT_HAND }
+        ensures few { IfNone result (length (held self.old) < AT_HAND) }
+        ensures found { IfSome result (λ found. take AT_HAND (held self.old) ≡ found.0 ∷ found.1) }
+        ensures held { IfSome result (λ found. held self.old
+            ≡ take (slice_index lens.now (found.0 % 32)) (found.0 ∷ found.1) ++ held self.new) }
+        ensures none { IfNone result (self.new ≡ self.old) }
+        ensures capacity { window_capacity self.new ≡ window_capacity self.old }
+    {
+        let (&first, rest) = self.held().first_chunk::<AT_HAND>()?.split_first()?;
+        let affix = *rest.first_chunk::<8>()?;
+        self.skip(usize::from(lens[usize::from(first % 32)]));
+        Some((first, affix))
     }
 
     /// Gives up `count` bytes at the front. The room stays the same.

@@ -3,10 +3,13 @@ ghost use Rattle.ciborium_ll.specs.Decoding.{IsSteady, offset_of, waiting_of};
 ghost use Rattle.ciborium_ll.specs.Title.{title_len};
 
 use crate::checks::{Stop, holds, next_header, read_stop};
-use ciborium_ll::io::{Discard, Failures, Read, SliceReader, SliceWriter, Write};
+use ciborium_ll::io::{
+    BufferedReader, Discard, Failures, KeepingReader, Read, SliceReader, SliceWriter, Write,
+};
 use ciborium_ll::{Bytes, Decoder, Encoder, Error, Header, Segments, Spelling, Text};
 use ciborium_ll_grammar::hdr::table::title_lens;
 use std::process::Abort;
+use test_support::streams::PartReader;
 
 // Pulls the expected header.
 pub fn pulls<'a>(
@@ -104,6 +107,35 @@ fn a_title_at_hand(rt: HostRuntime) {
     let is_none = reader.read_at_hand(title_lens()).is_none();
     let is_right = is_none && reader.left().len() == 6;
     holds(&rt, is_right, "six are too few");
+}
+
+// Reads a byte, and then takes the title of three bytes that is at hand. None is at hand before that read, and none
+// after the title.
+fn takes_title_at_hand<R: Read>(reader: &mut R) -> bool
+where
+    R::Error: Drop,
+{
+    let is_none_before = reader.read_at_hand(title_lens()).is_none();
+    let is_read = reader.read_exact(&mut [0]).is_ok();
+    let found = reader.read_at_hand(title_lens());
+    let is_none_after = reader.read_at_hand(title_lens()).is_none();
+    is_none_before && is_read && found == Some((0x19, [1, 0, 3, 4, 5, 6, 7, 8])) && is_none_after
+}
+
+// Nine bytes that were read ahead are at hand.
+#[test]
+fn a_title_read_ahead(rt: HostRuntime) {
+    let bytes = [0, 0x19, 1, 0, 3, 4, 5, 6, 7, 8];
+    let mut lent = [0; 16];
+    let mut reader = BufferedReader::new(PartReader::new(&bytes, 10), &mut lent);
+    let is_taken = takes_title_at_hand(&mut reader);
+    let is_right = is_taken && reader.buffer() == [3, 4, 5, 6, 7, 8].as_slice();
+    holds(&rt, is_right, "the title is consumed");
+    let mut lent = [0; 16];
+    let mut reader = KeepingReader::new(PartReader::new(&bytes, 10), &mut lent);
+    let is_taken = takes_title_at_hand(&mut reader);
+    let is_right = is_taken && reader.buffer() == [3, 4, 5, 6, 7, 8].as_slice();
+    holds(&rt, is_right, "the title is consumed, and the rest is kept");
 }
 
 // Writes a byte and the bytes after it.
