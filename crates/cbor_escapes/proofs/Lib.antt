@@ -1,1 +1,2 @@
+pub mod UnescapedLaws
 mod WriteLaws

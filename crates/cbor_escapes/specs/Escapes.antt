@@ -1,6 +1,6 @@
 -- The characters that a terminal acts on, and their escapes.
-use Rattle.std.specs.Prelude.{ℕ, ◌/◌, ◌%◌, Bool, ◌&&◌, ◌||◌, ◌==◌, nat_le, nat_lt, List, [], ◌∷◌, ◌++◌}
-use Rattle.std.specs.Prelude.{if◌then◌else◌}
+use Rattle.std.specs.Prelude.{ℕ, ◌/◌, ◌%◌, ◌<◌, ◌≤◌, ◌≢◌, Bool, ◌&&◌, ◌||◌, ◌==◌, nat_le, nat_lt, List, [], ◌∷◌, ◌++◌}
+use Rattle.std.specs.Prelude.{if◌then◌else◌, length, slice_index}
 use Rattle.std.specs.Char.{encode_utf8}
 use Rattle.ciborium_ll_text.specs.Digits.{hex_text}
 
@@ -35,3 +35,12 @@ terminal_text character = if is_acted_on character then escape_text character el
 abbrev pub terminal_texts : List ℕ → List ℕ
 terminal_texts [] = []
 terminal_texts (character ∷ characters) = terminal_text character ++ terminal_texts characters
+
+-- The character stands for itself between quotes, and is one of ASCII: no control character, no quote and no backslash.
+-- `61` and `20` are such, and `0a`, `22` and `7f` are none.
+abbrev pub IsUnescaped : ℕ → Type 0
+IsUnescaped character = (32 ≤ character) × (character < 127) × (character ≢ 34) × (character ≢ 92)
+
+-- Each of the characters is such. Those of `61 20` are, and those of `61 0a` are not.
+abbrev pub AreUnescaped : List ℕ → Type 0
+AreUnescaped characters = (i : ℕ) → i < length characters → IsUnescaped (slice_index characters i)

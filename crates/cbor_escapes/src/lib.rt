@@ -4,12 +4,25 @@
 //! A terminal may act on control characters, and bidirectional controls change the order of the text that it shows.
 #![tactic(auto)]
 
-ghost use Rattle.std.specs.Prelude.{◌≡◌};
+ghost use Rattle.std.specs.Prelude.{◌≡◌, ◌↔◌, IsTrue};
 ghost use Rattle.std.specs.Fmt.{WritesOnOk};
 ghost use Rattle.std.specs.Str.{chars};
-ghost use Rattle.cbor_escapes.specs.Escapes.{is_acted_on, terminal_text, terminal_texts};
+ghost use Rattle.cbor_escapes.specs.Escapes.{AreUnescaped, IsUnescaped, is_acted_on, terminal_text, terminal_texts};
 
 use std::fmt;
+
+/// 1 for a byte that is a character of ASCII without an escape, and otherwise 0. A line has 32 bytes.
+#[rattlefmt::skip]
+static UNESCAPED: [u8; 256] = [
+    0, 0, 0, 0, 0, 0, 0, 0, 0, 0, 0, 0, 0, 0, 0, 0, 0, 0, 0, 0, 0, 0, 0, 0, 0, 0, 0, 0, 0, 0, 0, 0,
+    1, 1, 0, 1, 1, 1, 1, 1, 1, 1, 1, 1, 1, 1, 1, 1, 1, 1, 1, 1, 1, 1, 1, 1, 1, 1, 1, 1, 1, 1, 1, 1,
+    1, 1, 1, 1, 1, 1, 1, 1, 1, 1, 1, 1, 1, 1, 1, 1, 1, 1, 1, 1, 1, 1, 1, 1, 1, 1, 1, 1, 0, 1, 1, 1,
+    1, 1, 1, 1, 1, 1, 1, 1, 1, 1, 1, 1, 1, 1, 1, 1, 1, 1, 1, 1, 1, 1, 1, 1, 1, 1, 1, 1, 1, 1, 1, 0,
+    0, 0, 0, 0, 0, 0, 0, 0, 0, 0, 0, 0, 0, 0, 0, 0, 0, 0, 0, 0, 0, 0, 0, 0, 0, 0, 0, 0, 0, 0, 0, 0,
+    0, 0, 0, 0, 0, 0, 0, 0, 0, 0, 0, 0, 0, 0, 0, 0, 0, 0, 0, 0, 0, 0, 0, 0, 0, 0, 0, 0, 0, 0, 0, 0,
+    0, 0, 0, 0, 0, 0, 0, 0, 0, 0, 0, 0, 0, 0, 0, 0, 0, 0, 0, 0, 0, 0, 0, 0, 0, 0, 0, 0, 0, 0, 0, 0,
+    0, 0, 0, 0, 0, 0, 0, 0, 0, 0, 0, 0, 0, 0, 0, 0, 0, 0, 0, 0, 0, 0, 0, 0, 0, 0, 0, 0, 0, 0, 0, 0,
+];
 
 /// Returns whether a terminal acts on the character of this code.
 ///
@@ -27,6 +40,28 @@ pub fn is_acted_on(code: u32) -> bool
             | 0x202a..=0x202e
             | 0x2066..=0x2069
     )
+}
+
+/// Returns whether each byte is a character of ASCII that stands for itself between quotes: none that a terminal acts
+/// on, no quote and no backslash.
+#[inline(always)]
+pub fn are_unescaped(bytes: &[u8]) -> bool
+    ensures { IsTrue result ↔ AreUnescaped bytes.now }
+{
+    // The loop tests each byte, also after one that has an escape, so that it has no other branch.
+    let mut are_unescaped = true;
+    'bytes: for byte in bytes {
+        are_unescaped = are_unescaped & is_unescaped(*byte);
+    }
+    are_unescaped
+}
+
+/// Returns whether the byte is such a character.
+#[inline(always)]
+fn is_unescaped(byte: u8) -> bool
+    ensures { IsTrue result ↔ IsUnescaped byte }
+{
+    UNESCAPED[usize::from(byte)] != 0
 }
 
 /// Writes a character as a text for a terminal has it: by its escape if a terminal acts on it, and otherwise itself.
