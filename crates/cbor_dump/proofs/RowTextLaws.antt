@@ -31,15 +31,17 @@ pub more_at : (bytes : List ℕ) (at : ℕ) → at < length bytes
     → more_text (take (at + 1) bytes) ≡ more_text (take at bytes) ++ (32 ∷ hex_text (get_or bytes at 0))
 more_at bytes at less = ap more_text (take_more bytes at 0 less) ∙ more_more (take at bytes) (get_or bytes at 0)
 
--- The bytes have three columns each, with the space before them.
-pub more_length : (bytes : List ℕ) → length (more_text bytes) ≡ 3 * length bytes
-more_length [] = refl
-more_length (byte ∷ bytes) = omega (arith, more_length bytes)
+-- Spaces, and a number of spaces after them.
+blanks : (some more : ℕ) → blank some ++ blank more ≡ blank (some + more)
+blanks zero more = let same : 0 + more ≡ more = omega arith in sym (ap blank same)
+blanks (suc some) more =
+    let same : suc some + more ≡ suc (some + more) = omega arith in
+    ap (λ (z : List ℕ). 32 ∷ z) (blanks some more) ∙ sym (ap blank same)
 
--- Spaces are as many as they are counted.
-pub blank_length : (count : ℕ) → length (blank count) ≡ count
-blank_length zero = refl
-blank_length (suc count) = ap suc (blank_length count)
+-- An indent of one more level.
+pub one_level_more : (levels : ℕ) → blank (3 * levels) ++ blank 3 ≡ blank (3 * (levels + 1))
+one_level_more levels =
+    let three : 3 * levels + 3 ≡ 3 * (levels + 1) = omega arith in blanks (3 * levels) 3 ∙ ap blank three
 
 -- The text of one more character follows those of the others.
 pub characters_more : (characters : List ℕ) (character : ℕ)

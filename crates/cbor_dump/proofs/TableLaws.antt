@@ -8,7 +8,9 @@ use Rattle.std.proofs.lemmas.List.{drop_more, get_or-drop}
 use Rattle.std.proofs.lemmas.Str.{IsCharBoundary-from_ascii, chars-IsAscii, encode_ascii}
 use Rattle.std.specs.Str.{IsAscii, IsCharBoundary, chars}
 use Rattle.ciborium_ll_text.specs.Digits.{hex_digit, hex_text}
-use Rattle.cbor_dump.specs.RowTexts.{ArePlain, blank, character_text, characters_text}
+use Rattle.cbor_escapes.specs.Escapes.{AreUnescaped}
+use Rattle.cbor_escapes.proofs.UnescapedLaws.{unescaped_ascii, rest_unescaped}
+use Rattle.cbor_dump.specs.RowTexts.{blank, character_text, characters_text}
 use Rattle.cbor_dump.specs.declared.rows.TheConstants.{DIGITS, MARGIN}
 
 -- ---- digits
@@ -81,21 +83,11 @@ cut_margin at le = IsCharBoundary-from_ascii MARGIN.now at margin_ascii (omega (
 
 -- ---- spaces
 
-take_blank : (some count : ℕ) (tail : List ℕ) → some ≤ count → take some (blank count ++ tail) ≡ blank some
-take_blank zero count tail le = refl
-take_blank (suc some) zero tail le = absurd (omega (arith, le))
-take_blank (suc some) (suc count) tail le =
-    ap (λ (z : List ℕ). 32 ∷ z) (take_blank some count tail (omega (arith, le)))
-
 drop_blank : (some more : ℕ) (tail : List ℕ) → drop some (blank (some + more) ++ tail) ≡ blank more ++ tail
 drop_blank zero more tail = let same : 0 + more ≡ more = omega arith in ap (λ (n : ℕ). blank n ++ tail) same
 drop_blank (suc some) more tail =
     let same : suc some + more ≡ suc (some + more) = omega arith in
     ap (λ (n : ℕ). drop (suc some) (blank n ++ tail)) same ∙ drop_blank some more tail
-
--- The margin of a row begins with spaces.
-pub spaces_are : (some : ℕ) → some ≤ 36 → take some MARGIN.now ≡ blank some
-spaces_are some le = take_blank some 36 (codes " # ") le
 
 -- The margin of a row ends with spaces and ` # `.
 pub margin_ends : (some : ℕ) → some ≤ 36 → drop (36 - some) MARGIN.now ≡ blank some ++ codes " # "
@@ -108,16 +100,11 @@ margin_ends some le =
 one_plain : (c : ℕ) → 32 ≤ c → c < 127 → c ≢ 34 → c ≢ 92 → character_text c ≡ c ∷ []
 one_plain c low high quote back = grind (arith, nat_tests, encode_ascii)
 
-plain_texts : (xs : List ℕ) → ArePlain xs → characters_text xs ≡ xs
+plain_texts : (xs : List ℕ) → AreUnescaped xs → characters_text xs ≡ xs
 plain_texts [] plain = refl
 plain_texts (x ∷ xs) plain =
     let first = plain 0 (omega arith) in
-    rw (one_plain x first.0 first.1 first.2 first.3, plain_texts xs (λ i less. plain (suc i) (omega (arith, less)))) refl
+    rw (one_plain x first.0 first.1 first.2 first.3, plain_texts xs (rest_unescaped x xs plain)) refl
 
-plain_ascii : (xs : List ℕ) → ArePlain xs → IsAscii xs
-plain_ascii [] plain i = omega arith
-plain_ascii (x ∷ xs) plain zero = omega (arith, (plain 0 (omega arith)).1)
-plain_ascii (x ∷ xs) plain (suc i) = plain_ascii xs (λ j less. plain (suc j) (omega (arith, less))) i
-
-pub plain_shown : (text : List ℕ) → ArePlain text → text ≡ characters_text (chars text)
-plain_shown text plain = sym (ap characters_text (chars-IsAscii text (plain_ascii text plain)) ∙ plain_texts text plain)
+pub plain_shown : (text : List ℕ) → AreUnescaped text → text ≡ characters_text (chars text)
+plain_shown text plain = sym (ap characters_text (chars-IsAscii text (unescaped_ascii text plain)) ∙ plain_texts text plain)

@@ -1,7 +1,7 @@
 -- The text of a row of a dump: its bytes as digits, indented by its level, and after a `#` their meaning, as RFC 8949
 -- shows its examples (section 3).
 use Rattle.std.specs.Prelude.{◌≡◌, ℕ, zero, suc, ◌-◌, ◌*◌, ◌==◌, min, List, [], ◌∷◌, ◌++◌, length, nat_le, nat_lt}
-use Rattle.std.specs.Prelude.{◌≢◌, ◌<◌, ◌≤◌, ◌^◌, ◌||◌, slice_index, IsOk, Result}
+use Rattle.std.specs.Prelude.{◌^◌, ◌||◌, IsOk, Result}
 use Rattle.std.specs.Prelude.{codes, decimal, negsuc, Option, Some, None, if◌then◌else◌}
 use Rattle.std.specs.Fmt.{HasWritten, IsPlainFormatter, signed_decimal}
 use Rattle.std.specs.declared.fmt.Error.{Error}
@@ -100,12 +100,6 @@ character_text character =
     else (if character == 13 then 92 ∷ 114 ∷ []
     else (if character == 9 then 92 ∷ 116 ∷ []
     else terminal_text character))))
-
--- Characters that stand for themselves between quotes: ASCII without control characters, quotes and backslashes.
--- `61 20` are such, and `0a`, `22` and `7f` are none.
-abbrev pub ArePlain : List ℕ → Type 0
-ArePlain characters = (i : ℕ) → i < length characters → (32 ≤ slice_index characters i)
-    × (slice_index characters i < 127) × (slice_index characters i ≢ 34) × (slice_index characters i ≢ 92)
 
 -- The texts of characters, joined: `61 0a` gives `a\n`.
 abbrev pub characters_text : List ℕ → List ℕ

@@ -5,12 +5,11 @@ ghost use Rattle.std.specs.Prelude.{decimal, length, nat_le, nat_lt, negsuc, tru
 ghost use Rattle.std.specs.Fmt.{DisplaysOnOk, DisplaysStyledOnOk, WritesOnOk, signed_decimal};
 ghost use Rattle.std.specs.Str.{chars};
 ghost use Rattle.std.specs.declared.option.Option.{Option};
-ghost use Rattle.arrayvec.specs.ArrayString.{array_string_len};
 ghost use Rattle.ciborium_ll_text.specs.Digits.{hex_text};
-ghost use Rattle.cbor_dump.specs.declared.rows.TheConstants.{AT_ONCE, COMMENT, KEY_COLUMNS, LINE, MARGIN};
+ghost use Rattle.cbor_dump.specs.declared.rows.TheConstants.{COMMENT, KEY_COLUMNS, STEP};
 ghost use Rattle.cbor_dump.specs.Levels.{Line};
 ghost use Rattle.cbor_dump.specs.Dumps.{Draws};
-ghost use Rattle.cbor_dump.specs.RowTexts.{ArePlain, blank, character_text, characters_text, count_text, digits_text};
+ghost use Rattle.cbor_dump.specs.RowTexts.{blank, character_text, characters_text, count_text, digits_text};
 ghost use Rattle.cbor_dump.specs.RowTexts.{IsHeaderValue, IsRowText, IsValue, WritesOneOnOk, bare_text};
 ghost use Rattle.cbor_dump.specs.RowTexts.{commented_text, header_text, indent, known_text, level_text, more_text};
 ghost use Rattle.cbor_dump.specs.RowTexts.{quoted_text, row_text, shown_text, simple_text, tag_text, width_text};
@@ -20,8 +19,7 @@ ghost use Rattle.cbor_dump.specs.RowTexts.{text_key};
 use crate::key::Key;
 use crate::numbers::number;
 use crate::tags::name_of;
-use arrayvec::ArrayString;
-use cbor_escapes::{is_acted_on, write_shown};
+use cbor_escapes::{are_unescaped, is_acted_on, write_shown};
 use cbor_floats::float_value;
 use ciborium_ll::{Float, Header, simple};
 use itoa::Buffer;
@@ -29,6 +27,9 @@ use std::fmt;
 
 /// The column of the `#` before a comment.
 const COMMENT: usize = 36;
+
+/// How many columns a level takes in an indent: as many as a byte takes, with the space before it.
+const STEP: usize = 3;
 
 /// How many levels an indent shows at most.
 const MOST_INDENT: usize = 8;
@@ -41,12 +42,6 @@ const DEEP_COLUMNS: usize = 12;
 
 /// How many columns fewer it has if its value is a float.
 const FLOAT_COLUMNS: usize = 5;
-
-/// How many bytes are written at once. A row of a dump has no more.
-const AT_ONCE: usize = 16;
-
-/// How many bytes these take as digits at most, with the spaces around them.
-const LINE: usize = 128;
 
 /// A space and two digits for each byte, from 00 to ff.
 const DIGITS: &str = " \
@@ -134,21 +129,11 @@ pub trait Rows {
         ensures refused { OnErr result (drawn self.new ≡ drawn self.old) };
 }
 
-/// Returns this many spaces.
-#[inline(always)]
-fn spaces(count: usize) -> &'static str
-    requires { count ≤ COMMENT }
-    ensures { result.now ≡ blank count }
-{
-    &MARGIN[..count]
-}
-
 /// Returns this many spaces, and ` # ` after them.
 #[inline(always)]
 fn spaces_before_hash(count: usize) -> &'static str
     requires { count ≤ COMMENT }
-    ensures text { result.now ≡ blank count ++ codes " # " }
-    ensures short { length result.now ≤ length MARGIN.now }
+    ensures { result.now ≡ blank count ++ codes " # " }
 {
     &MARGIN[COMMENT - count..]
 }
@@ -171,32 +156,6 @@ fn digits_behind(byte: u8) -> &'static str
     &DIGITS[at..at + 3]
 }
 
-/// Adds the digits of bytes to a text, after a space each.
-fn add_digits(text: &mut ArrayString<LINE>, bytes: &[u8])
-    requires { array_string_len text.old + 3 * length bytes.now ≤ LINE }
-    ensures { text.new.bytes ≡ text.old.bytes ++ more_text bytes.now }
-{
-    'bytes: for byte in bytes {
-        text.push_str(digits_behind(*byte));
-    }
-}
-
-/// Returns this many spaces, the digits of some bytes with spaces between them, and a text after them.
-fn line_of(shift: usize, bytes: &[u8], end: &str) -> ArrayString<LINE>
-    requires shift { shift ≤ COMMENT }
-    requires some { 0 < length bytes.now }
-    requires few { length bytes.now ≤ AT_ONCE }
-    requires short { length end.now ≤ length MARGIN.now }
-    ensures { result.bytes ≡ blank shift ++ (digits_text bytes.now ++ end.now) }
-{
-    let mut line = ArrayString::new();
-    line.push_str(spaces(shift));
-    line.push_str(digits_of(bytes[0]));
-    add_digits(&mut line, &bytes[1..]);
-    line.push_str(end);
-    line
-}
-
 /// Writes the digits of bytes, after a space each.
 fn more_digits<W: fmt::Write>(f: &mut fmt::Formatter<W>, bytes: &[u8]) -> fmt::Result
     ensures { WritesOnOk W.Write.write_str_gives f.old result (more_text bytes.now) f.new }
@@ -207,23 +166,27 @@ fn more_digits<W: fmt::Write>(f: &mut fmt::Formatter<W>, bytes: &[u8]) -> fmt::R
     Ok(())
 }
 
-/// Writes this many spaces, bytes as digits with spaces between them, and a text after them: in one write, unless the
-/// bytes are more than those of a row of a dump.
+/// Writes an indent of this many levels.
+fn indented<W: fmt::Write>(f: &mut fmt::Formatter<W>, levels: usize) -> fmt::Result
+    ensures { WritesOnOk W.Write.write_str_gives f.old result (blank (STEP * levels)) f.new }
+{
+    'levels: for _level in 0..levels {
+        f.write_str("   ")?;
+    }
+    Ok(())
+}
+
+/// Writes an indent of this many levels, bytes as digits with spaces between them, and a text after them.
 fn digits<W: fmt::Write>(
     f: &mut fmt::Formatter<W>,
-    shift: usize,
+    levels: usize,
     bytes: &[u8],
     end: &str,
 ) -> fmt::Result
-    requires shift { shift ≤ COMMENT }
-    requires short { length end.now ≤ length MARGIN.now }
-    ensures { WritesOnOk W.Write.write_str_gives f.old result (blank shift ++ (digits_text bytes.now ++ end.now))
-        f.new }
+    ensures { WritesOnOk W.Write.write_str_gives f.old result
+        (blank (STEP * levels) ++ (digits_text bytes.now ++ end.now)) f.new }
 {
-    if !bytes.is_empty() && bytes.len() <= AT_ONCE {
-        return f.write_str(line_of(shift, bytes, end).as_str());
-    }
-    f.write_str(spaces(shift))?;
+    indented(f, levels)?;
     if let [first, rest @ ..] = bytes {
         f.write_str(digits_of(*first))?;
         more_digits(f, rest)?;
@@ -343,25 +306,11 @@ fn quoted<W: fmt::Write>(f: &mut fmt::Formatter<W>, text: &str) -> fmt::Result
     f.write_str("\"")
 }
 
-/// Returns whether each byte is a character that stands for itself between quotes.
-fn is_plain(bytes: &[u8]) -> bool
-    ensures { result ≡ true → ArePlain bytes.now }
-{
-    let mut at = 0;
-    'bytes: while at < bytes.len() {
-        if bytes[at] < b' ' || bytes[at] >= 127 || bytes[at] == b'"' || bytes[at] == b'\\' {
-            return false;
-        }
-        at += 1;
-    }
-    true
-}
-
 /// Writes the characters of a text between its quotes.
 fn characters<W: fmt::Write>(f: &mut fmt::Formatter<W>, text: &str) -> fmt::Result
     ensures { WritesOnOk W.Write.write_str_gives f.old result (characters_text (chars text.now)) f.new }
 {
-    if is_plain(text.as_bytes()) {
+    if are_unescaped(text.as_bytes()) {
         return f.write_str(text);
     }
     'characters: for c in text.chars() {
@@ -370,18 +319,18 @@ fn characters<W: fmt::Write>(f: &mut fmt::Formatter<W>, text: &str) -> fmt::Resu
     Ok(())
 }
 
-/// Returns the columns of an indent: three for each level, and at most 24.
-fn indent(level: usize) -> usize
-    ensures { result ≡ indent level }
+/// Returns how many levels an indent shows.
+fn shown_levels(level: usize) -> usize
+    ensures { STEP * result ≡ indent level }
 {
-    3 * level.min(MOST_INDENT)
+    level.min(MOST_INDENT)
 }
 
 /// Writes the bytes of a row that has no comment, indented by its level.
 fn bare<W: fmt::Write>(f: &mut fmt::Formatter<W>, level: usize, bytes: &[u8]) -> fmt::Result
     ensures { WritesOnOk W.Write.write_str_gives f.old result (bare_text level bytes.now) f.new }
 {
-    digits(f, indent(level), bytes, "")
+    digits(f, shown_levels(level), bytes, "")
 }
 
 /// Writes the bytes of a row, and the `#` before its comment.
@@ -390,9 +339,9 @@ fn bare<W: fmt::Write>(f: &mut fmt::Formatter<W>, level: usize, bytes: &[u8]) ->
 fn commented<W: fmt::Write>(f: &mut fmt::Formatter<W>, level: usize, bytes: &[u8]) -> fmt::Result
     ensures { WritesOnOk W.Write.write_str_gives f.old result (commented_text level bytes.now) f.new }
 {
-    let room = COMMENT.saturating_sub(bytes.len().saturating_mul(3));
-    let shift = indent(level).min(room);
-    digits(f, shift, bytes, spaces_before_hash(room - shift))
+    let room = (COMMENT / STEP).saturating_sub(bytes.len());
+    let levels = shown_levels(level).min(room);
+    digits(f, levels, bytes, spaces_before_hash(STEP * (room - levels)))
 }
 
 /// Writes the level of a title that an indent can't show.
@@ -439,7 +388,7 @@ fn has_columns(text: &str, most: usize) -> bool
     requires few { most ≤ KEY_COLUMNS }
     ensures { result ≡ nat_le (length (characters_text (chars text.now))) most }
 {
-    if is_plain(text.as_bytes()) {
+    if are_unescaped(text.as_bytes()) {
         return text.len() <= most;
     }
     let mut len = 0usize;

@@ -3,15 +3,16 @@ use Rattle.std.proofs.lemmas.Iterator.{YieldsList-from_chars}
 use Rattle.std.proofs.lemmas.Iterator.Consumers.{YieldsList-end}
 use Rattle.std.specs.Fmt.{HasWritten}
 use Rattle.std.specs.Str.{chars}
-use Rattle.cbor_dump.specs.RowTexts.{ArePlain, character_text, characters_text}
+use Rattle.cbor_escapes.specs.Escapes.{AreUnescaped}
+use Rattle.cbor_dump.specs.RowTexts.{character_text, characters_text}
 use Rattle.cbor_dump.proofs.RowTextLaws.{characters_more, text_is, then_written}
 use Rattle.cbor_dump.proofs.TableLaws.{plain_shown}
 use Rattle.cbor_dump.proofs.rows.characters.Goals as goal
 
-pub returns-then-is_plain : goal.returns-then-is_plain
-returns-then-is_plain g c = λ plain ok.
+pub returns-then-are_unescaped : goal.returns-then-are_unescaped
+returns-then-are_unescaped g c = λ plain ok.
     text_is g.W.Write.write_str_gives _ _ _ _ (plain_shown c.args.text.now
-    (subst (λ (z : List ℕ). ArePlain z) c.as_bytes.ensures.value (c.is_plain.ensures c.if-is_plain.true)))
+    (subst (λ (z : List ℕ). AreUnescaped z) c.as_bytes.ensures.value (c.are_unescaped.ensures.0 c.if-are_unescaped.true)))
     (c.write_str.ensures.writes plain ok)
 
 pub characters-preserved : goal.characters-preserved
