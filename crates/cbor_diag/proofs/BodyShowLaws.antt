@@ -26,6 +26,12 @@ use Rattle.ciborium_ll.proofs.DecodingLaws.{ReadsPast-none}
 use Rattle.ciborium_ll.proofs.PiecesWritten.{writes_nothing}
 use Rattle.ciborium_ll_text.specs.Text.{IsCharacters, IsStuck}
 use Rattle.ciborium_ll_text.proofs.FrontLaws.{IsStuck-nil, IsStuck-rest}
+use Rattle.ciborium_ll_text.proofs.TextLaws.{front_of_text}
+use Rattle.ciborium_ll_text.proofs.Utf8Laws.{from_std}
+use Rattle.cbor_escapes.specs.Escapes.{AreUnescaped}
+use Rattle.cbor_escapes.proofs.UnescapedLaws.{unescaped_ascii}
+use Rattle.std.proofs.lemmas.Str.{IsUtf8-from_ascii}
+use Rattle.cbor_diag.specs.declared.strings.quotes.Quotes.TheVariants as q
 use Rattle.ciborium_ll_decoder.proofs.WholeBodyLaws.{front_of_all}
 use Rattle.ciborium_ll_decoder.proofs.BodyLaws.{writable_nil}
 use Rattle.cbor_diag.proofs.QuoteLaws.{wrote_both, wrote_first}
@@ -34,7 +40,7 @@ use Rattle.cbor_diag.specs.declared.DiagError.{DiagError}
 use Rattle.cbor_diag.specs.declared.DiagError.TheVariants as d
 use Rattle.cbor_diag.specs.Showing.{ShowsText}
 use Rattle.cbor_diag.specs.StringShows.{BodyUnshown, CopiesQuoted, IsShownFront, ShowsBody, closing, opening}
-use Rattle.cbor_diag.proofs.PassedLaws.{body_text-nil, passed_body, passed_text-append}
+use Rattle.cbor_diag.proofs.PassedLaws.{body_text-nil, passed_body, passed_text-append, plain_stands}
 use Rattle.cbor_diag.proofs.QuotedLaws.{front_longer}
 
 -- Two targets that are told to be the same are equal.
@@ -128,6 +134,16 @@ front_cut Bytes bytes front shown cut = absurd (omega (arith, ap length shown, c
 front_cut Text bytes front shown cut = (
   refl,
   λ whole. omega (arith, front_of_all bytes front (drop (length front) bytes) shown whole, cut),
+)
+
+-- A text of plain characters is shown whole, as it is.
+pub plain_whole : (kind : Kind) (quotes : Quotes) (bytes : List ℕ) → quotes ≡ kind_quotes kind → quotes ≡ q.Text
+    → AreUnescaped bytes → IsShownFront kind bytes bytes × (passed_text quotes h.Nothing bytes ≡ bytes)
+plain_whole Bytes quotes bytes is text plain = absurd (cc)
+plain_whole Text quotes bytes is text plain = (
+  rw (drop_all (length bytes) bytes (omega arith)) (front_of_text bytes
+      (from_std bytes (IsUtf8-from_ascii bytes (unescaped_ascii bytes plain)))),
+  rw text (plain_stands bytes plain).0,
 )
 
 module _ {R E W F : Type 0} (source : Reader R E) (sink : Writer W F) (kind : Kind) (quotes : Quotes)

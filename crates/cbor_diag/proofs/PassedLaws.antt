@@ -12,7 +12,8 @@ use Rattle.std.specs.Str.{chars}
 use Rattle.base64.specs.Rfc4648.{encode_symbols}
 use Rattle.ciborium_ll.specs.Strings.{Bytes, IsWritable, Kind, Text}
 use Rattle.ciborium_ll_text.proofs.Utf8Laws.{to_std}
-use Rattle.cbor_escapes.specs.Escapes.{escape_text, is_acted_on}
+use Rattle.cbor_escapes.specs.Escapes.{AreUnescaped, IsUnescaped, escape_text, is_acted_on}
+use Rattle.cbor_escapes.proofs.UnescapedLaws.{rest_unescaped}
 use Rattle.cbor_diag.specs.declared.strings.held.Held.{Held}
 use Rattle.cbor_diag.specs.declared.strings.held.Held.TheVariants as h
 use Rattle.cbor_diag.specs.declared.strings.quotes.Quotes.{Quotes}
@@ -236,6 +237,21 @@ stand_more bytes byte so_far itself is =
       passed_text-append q.Text h.Nothing bytes (byte ∷ []) ∙ rw (so_far.1, so_far.0, text) refl,
       passed_held-append q.Text h.Nothing bytes (byte ∷ []) ∙ rw (so_far.1) one.none,
     )
+
+-- A plain character stands for itself.
+plain_itself : (c : ℕ) → IsUnescaped c → (is_lead c ≡ false) × (byte_notation c ≡ c ∷ [])
+plain_itself c plain = (grind (arith, nat_tests, plain), grind (arith, nat_tests, encode_ascii, plain))
+
+plain_shown : (cs : List ℕ) → AreUnescaped cs → IsShownAs cs cs
+plain_shown [] plain = nothing
+plain_shown (c ∷ cs) plain =
+    let itself = plain_itself c (plain 0 (omega arith)) in
+    let rest = plain_shown cs (rest_unescaped c cs plain) in
+    subst (λ (z : List ℕ). IsShownAs (c ∷ cs) (z ++ cs)) itself.1 (alone c cs cs itself.0 rest)
+
+-- Plain characters stand for themselves.
+pub plain_stands : (cs : List ℕ) → AreUnescaped cs → StandAlone cs
+plain_stands cs plain = let shown = plain_shown cs plain in (shown.text_is, shown.none)
 
 -- ---- whole characters
 

@@ -84,6 +84,7 @@ impl Line {
     }
 
     /// Writes the text before an item: the comma after another item, and the space.
+    #[inline(always)]
     #[tactic(auto, using(crate::proofs::ShowLaws::writes))]
     pub(crate) fn before<W: Write>(
         self,
@@ -105,6 +106,7 @@ impl Line {
     }
 
     /// Writes the space before an item within a tag, an array or a map.
+    #[inline(always)]
     fn space<W: Write>(self, writer: &mut W, nest: Marked, is_first: bool) -> Result<(), W::Error>
         ensures { WritesBytes W.Write writer.old result
             (nest_space nest.header nest.mark self.style.layout self.level is_first) writer.new }
@@ -119,6 +121,7 @@ impl Line {
     }
 
     /// Writes the space before an item of an array or a map. `is_apart` says that an underscore follows the bracket.
+    #[inline(always)]
     fn item_space<W: Write>(
         self,
         writer: &mut W,

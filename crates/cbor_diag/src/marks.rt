@@ -35,6 +35,7 @@ pub(crate) struct Marked {
 
 impl Mark {
     /// Returns the mark of a title of this length. If `is_exact` is false, no marks are wanted.
+    #[inline(always)]
     pub(crate) fn of(is_exact: bool, header: Header, len: usize) -> Mark
         ensures { result ≡ title_mark is_exact header len }
     {
@@ -106,6 +107,7 @@ pub(crate) fn pull_marked<R: Read>(
 }
 
 /// Writes a text, and the mark after it.
+#[inline(always)]
 pub(crate) fn put_marked<W: Write>(writer: &mut W, text: &[u8], mark: Mark) -> Result<(), W::Error>
     ensures { WritesBytes W.Write writer.old result (text.now ++ mark_text mark) writer.new }
 {

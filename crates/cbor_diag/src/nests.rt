@@ -102,6 +102,7 @@ fn at_break<E, F>(
 
 /// Shows an item after its header, which was pulled at the offset `place`.
 #[cycle(items)]
+#[inline(always)]
 pub(crate) fn show_item<R: Read, W: Write, B: Bodies>(
     decoder: &mut Decoder<R>,
     writer: &mut W,
@@ -148,6 +149,7 @@ pub(crate) fn show_item<R: Read, W: Write, B: Bodies>(
 }
 
 /// Writes the text before an item.
+#[inline(always)]
 fn before<W: Write>(
     writer: &mut W,
     line: Line,

@@ -20,6 +20,7 @@ use ciborium_ll::io::{Read, Write};
 use ciborium_ll::{Decoder, Header};
 
 /// Shows an integer, a float, a simple value or a string after its header.
+#[inline(always)]
 pub(crate) fn show_plain<R: Read, W: Write>(
     decoder: &mut Decoder<R>,
     writer: &mut W,

@@ -45,6 +45,7 @@ pub const BUFFER_SIZE: usize = 64;
 
 /// Shows a byte string after its header, which has this length and a title of this mark. If `is_exact` is true, a string
 /// of the indefinite form shows the strings within it.
+#[inline(always)]
 pub(crate) fn show_bytes<R: Read, W: Write>(
     decoder: &mut Decoder<R>,
     writer: &mut W,
@@ -66,6 +67,7 @@ pub(crate) fn show_bytes<R: Read, W: Write>(
 }
 
 /// Shows a byte string by its bodies, after its header, which has this length and a title of this mark.
+#[inline(always)]
 fn show_bytes_bodies<R: Read, W: Write>(
     decoder: &mut Decoder<R>,
     writer: &mut W,
@@ -90,6 +92,7 @@ fn show_bytes_bodies<R: Read, W: Write>(
 }
 
 /// Shows a text string after its header, as [`show_bytes`] does.
+#[inline(always)]
 pub(crate) fn show_text<R: Read, W: Write>(
     decoder: &mut Decoder<R>,
     writer: &mut W,
@@ -111,6 +114,7 @@ pub(crate) fn show_text<R: Read, W: Write>(
 }
 
 /// Shows a text string by its bodies, after its header, which has this length and a title of this mark.
+#[inline(always)]
 fn show_text_bodies<R: Read, W: Write>(
     decoder: &mut Decoder<R>,
     writer: &mut W,

@@ -17,7 +17,8 @@ use super::quotes::{Quotes, show_quoted};
 use super::{BUFFER_SIZE, copy_quoted, say_mark};
 use crate::DiagError;
 use crate::marks::Mark;
-use crate::put::say;
+use crate::put::{put, say};
+use cbor_escapes::are_unescaped;
 use cbor_skip::SkipError;
 use ciborium_ll::io::{Read, Write};
 use ciborium_ll::{Body, Chunked, Decoder, Error, RecodeError};
@@ -26,6 +27,7 @@ use ciborium_ll_grammar::limits::MOST_KEPT;
 use ciborium_ll_text::state::{State, text_front};
 
 /// Shows a string of a definite length after its header: its body, and the mark of its title.
+#[inline(always)]
 pub(super) fn show_definite<R: Read, W: Write, P: Chunked>(
     decoder: &mut Decoder<R>,
     writer: &mut W,
@@ -90,8 +92,9 @@ fn copy_alone<R: Read, W: Write, P: Chunked>(
     copy_quoted(&mut segments, writer, body, quotes)
 }
 
-/// Shows the text between the quotes of this body, which a buffer holds. Of a text that is no UTF-8 it shows the
-/// longest front that is, unless more than three bytes follow it.
+/// Shows the text between the quotes of this body, which a buffer holds. A text of ASCII without an escape
+/// goes out as it is. Of a text that is no UTF-8 the call shows the longest front that is, unless more than three bytes
+/// follow it.
 fn copy_short<R: Read, W: Write, P: Chunked>(
     decoder: &mut Decoder<R>,
     writer: &mut W,
@@ -109,6 +112,12 @@ fn copy_short<R: Read, W: Write, P: Chunked>(
     let mut memory = [0; BUFFER_SIZE];
     let bytes = &mut memory[..body.length];
     read_short::<R, P>(decoder, body, bytes)?;
+    if matches!(quotes, Quotes::Text) && are_unescaped(bytes) {
+        match put(writer, bytes) {
+            Ok(()) => return Ok(()),
+            Err(fault) => return Err(RecodeError::Write(fault)),
+        }
+    }
     let front = shown_front(quotes, bytes);
     let rest = bytes.len() - front.len();
     if rest > MOST_KEPT {
