@@ -3,6 +3,8 @@ pub mod CanonLaws
 pub mod EmbedLaws
 pub mod FenceLaws
 pub mod InputLaws
+pub mod KeptLaws
+pub mod LineLaws
 pub mod PartLaws
 pub mod RecodeItems
 pub mod RecodeLaws

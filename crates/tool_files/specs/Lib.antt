@@ -8,5 +8,6 @@ pub mod Encodes
 pub mod Fences
 pub mod Inputs
 pub mod Indexes
+pub mod Lines
 pub mod Recodes
 pub mod Shows

@@ -1,5 +1,5 @@
 -- How an input is shown.
-use Rattle.std.specs.Prelude.{◌≡◌, ℕ, Bool, [], Option, None, Some, Result, Err}
+use Rattle.std.specs.Prelude.{◌≡◌, ℕ, Bool, [], Option, None, Some, Result, Ok, Err}
 use Rattle.std.specs.declared.io.Error.{Error}
 use Rattle.ciborium_ll_grammar.specs.declared.spelling.Spelling.{Spelling}
 use Rattle.ciborium_ll.specs.Types.BufferedReader.{BufferedReader}
@@ -10,13 +10,15 @@ use Rattle.ciborium_ll.specs.Types.ReadFault.{ReadFault}
 use Rattle.ciborium_ll.specs.Types.Write.{Ghosts as Sink}
 use Rattle.ciborium_ll.specs.Decoding.{IsFreshAs}
 use Rattle.ciborium_ll.specs.Sides.{sides}
+use Rattle.ciborium_ll_buffers.specs.declared.buffered.FaultKept.{FaultKept}
 use Rattle.ciborium_ll_buffers.specs.Buffers.{buffered_read_fault, keeping_capacity, keeping_fault, keeping_held}
 use Rattle.ciborium_ll_buffers.specs.Buffers.{keeping_source}
 use Rattle.cbor_skip.specs.declared.SkipError.{SkipError}
 use Rattle.cbor_skip.specs.Skipping.{StopsCounted}
 use Rattle.cbor_dump.specs.Checking.{ReadsAsCheck}
-use Rattle.cbor_dump.specs.Dumps.{AreRowsTaken}
+use Rattle.cbor_dump.specs.Dumps.{AreRowsTaken, IsRefused}
 use Rattle.cbor_dump.specs.declared.dump.DumpError.{DumpError}
+use Rattle.cbor_dump.specs.declared.dump.DumpError.TheVariants as d
 use Rattle.cbor_json.specs.declared.JsonError.{JsonError}
 use Rattle.tool_verdicts.specs.Checking.{dump_said, fault_said, items_said, unless_failed}
 use Rattle.tool_verdicts.specs.Lines.{WritesPart}
@@ -56,6 +58,13 @@ module _ {I G T E W F : Type 0} (memory : Ghosts I G) (reads : Ghosts (BufferedR
         WritesPart memory reads sink form depth skip most one BUFFER_SIZE (sides old writer) outcome
         (sides new then_writer)
     pub said : result ≡ items_said outcome (buffered_read_fault new.reader) new.offset
+
+-- The answer of a dump, with another error in place of one that only says that it is kept. After `82` of `82 01`, if a
+-- row was refused, both say so.
+abbrev pub TellsKept : {E : Type 0} → Result E (DumpError E FaultKept) → Result E (DumpError E Error) → Type 0
+TellsKept (Ok end) told = told ≡ Ok end
+TellsKept (Err (d.Item error)) told = told ≡ Err (d.Item error)
+TellsKept (Err (d.Rows kept)) told = IsRefused told
 
 module _ {R E : Type 0} (reads : Ghosts R E) where
   -- The rows of the items from the state of the decoder on were printed, up to this offset. If one was refused, nothing

@@ -1,7 +1,10 @@
 //! The word `dump`.
 
 ghost use Rattle.std.specs.Prelude.{◌≤◌, ◌↔◌, ℕ, List, length, IsOk, None};
+ghost use Rattle.std.specs.Prelude.{Result};
 ghost use Rattle.std.specs.Str.{IsCharBoundary};
+ghost use Rattle.std.specs.declared.io.Error.{Error as IoError};
+ghost use Rattle.cbor_dump.specs.declared.dump.DumpError.{DumpError as AnyError};
 ghost use Rattle.ciborium_ll.specs.Decoding.{offset_of};
 ghost use Rattle.ciborium_ll.specs.Premises.{CanRead};
 ghost use Rattle.cbor_dump.specs.Checking.{ReadsAsCheck};
@@ -9,7 +12,7 @@ ghost use Rattle.cbor_dump.specs.Dumps.{AreRowsTaken};
 ghost use Rattle.cbor_dump.specs.Sequences.{IsSequence};
 ghost use Rattle.cbor_dump.specs.Takings.{IsInMode, most_bytes};
 ghost use Rattle.tool_verdicts.specs.Checking.{FindsBehindRows, dump_said};
-ghost use Rattle.tool_files.specs.Shows.{DumpsAll, DumpsInput, DumpsSome, PrintsRows};
+ghost use Rattle.tool_files.specs.Shows.{DumpsAll, DumpsInput, DumpsSome, PrintsRows, TellsKept};
 ghost use Rattle.ciborium_ll.specs.Limits.{MOST_LEVELS};
 
 use crate::arguments::Options;
@@ -22,12 +25,12 @@ use cbor_dump::counted::skip_items;
 use cbor_dump::dump::{DumpError, dump};
 use cbor_dump::rows::{Meaning, Row, Rows};
 use cbor_embedded::Embedded;
-use ciborium_ll::io::{KeepingReader, Read};
+use ciborium_ll::io::{FaultKept, KeepingReader, Read};
 use ciborium_ll::{Decoder, Spelling};
 use std::alloc::{AllocError, Global};
 use std::cell::{RefCell, RefMut};
 use std::fmt::Write;
-use std::io;
+use std::{fmt, io};
 use tool_verdicts::check::{BUFFER_SIZE, fault_of, prefer_failure};
 use tool_verdicts::dump::{dump_verdict, show_left};
 use tool_verdicts::items::EMBEDDED_ROOM;
@@ -80,34 +83,42 @@ const PLAIN: &str = "\x1b[0m";
 
 impl<W: io::Write> Printer<'_, W> {
     /// Returns the lines that wait.
-    fn lines(&self) -> io::Result<RefMut<'_, Lines<W>>> {
-        match self.output.try_borrow_mut() {
-            Ok(lines) => Ok(lines),
-            Err(_) => Err(io::Error::from(io::ErrorKind::Other)),
+    fn lines(&self) -> Result<RefMut<'_, Lines<W>>, FaultKept> {
+        self.output.try_borrow_mut().map_err(|_| FaultKept)
+    }
+
+    /// Keeps the fault that there is no memory for a line, if there is none.
+    fn fits(&self, written: fmt::Result) -> Result<(), FaultKept> {
+        if written.is_ok() {
+            return Ok(());
         }
+        self.lines()?.keep(io::Error::from(AllocError));
+        Err(FaultKept)
     }
 
     /// Prints a row. A fault has its color throughout.
-    fn put_row(&mut self, row: &Row<'_>, is_fault: bool) -> io::Result<()> {
+    fn put_row(&mut self, row: &Row<'_>, is_fault: bool) -> Result<(), FaultKept> {
         if self.colors {
             self.line.clear();
-            write_row(&mut self.line, row, self.offsets)?;
+            let written = write_row(&mut self.line, row, self.offsets);
+            self.fits(written)?;
             return self.put_colored(is_fault);
         }
         let mut lines = self.lines()?;
-        write_row(&mut lines.text, row, self.offsets)?;
-        lines.end_line()
+        let added = write_row(&mut *lines, row, self.offsets);
+        lines.end_line(added)
     }
 
     /// Prints a row of a body, or hides it if enough rows of the body were printed.
-    fn put_body(&mut self, row: &Row<'_>) -> io::Result<()> {
+    fn put_body(&mut self, row: &Row<'_>) -> Result<(), FaultKept> {
         if self.most.is_none_or(|most| self.rows < most) {
             self.rows = self.rows.saturating_add(1);
             return self.put_row(row, false);
         }
         if self.hidden.bytes == 0 {
             self.line.clear();
-            write!(self.line, "{row}")?;
+            let written = write_row(&mut self.line, row, false);
+            self.fits(written)?;
             self.hidden.indent = first_digit(self.line.as_str());
         }
         self.hidden.bytes = self.hidden.bytes.saturating_add(row.bytes.len());
@@ -115,63 +126,53 @@ impl<W: io::Write> Printer<'_, W> {
     }
 
     /// Prints how many bytes of the last body were hidden, if there are any.
-    fn end_body(&mut self) -> io::Result<()> {
+    #[inline(always)]
+    fn end_body(&mut self) -> Result<(), FaultKept> {
         self.rows = 0;
-        let Hidden { bytes, indent } = self.hidden;
-        if bytes == 0 {
+        if self.hidden.bytes == 0 {
             return Ok(());
         }
+        self.put_hidden()
+    }
+
+    /// Prints how many bytes of the last body were hidden.
+    fn put_hidden(&mut self) -> Result<(), FaultKept> {
+        let hidden = self.hidden;
         self.hidden = NONE_HIDDEN;
         self.line.clear();
-        let indent = if self.offsets {
-            indent.saturating_add(OFFSET_COLUMNS)
-        } else {
-            indent
-        };
-        for _ in 0..indent {
-            self.line.push(' ')?;
-        }
-        let plural = if bytes == 1 { "" } else { "s" };
-        write!(self.line, "# ... {bytes} more byte{plural}")?;
+        let written = write_hidden(&mut self.line, hidden, self.offsets);
+        self.fits(written)?;
         self.put_line(false)
     }
 
     /// Prints the line, with its color if colors are wanted.
-    fn put_line(&mut self, is_fault: bool) -> io::Result<()> {
+    fn put_line(&mut self, is_fault: bool) -> Result<(), FaultKept> {
         if self.colors {
             return self.put_colored(is_fault);
         }
         let mut lines = self.lines()?;
-        lines.text.push_str(self.line.as_str())?;
-        lines.end_line()
+        let added = lines.write_str(self.line.as_str());
+        lines.end_line(added)
     }
 
     /// Prints the line with its color: the part from the first `#` on, or all of it if it is a fault.
-    fn put_colored(&mut self, is_fault: bool) -> io::Result<()> {
-        let line = self.line.as_str();
+    fn put_colored(&mut self, is_fault: bool) -> Result<(), FaultKept> {
         let mut lines = self.lines()?;
-        if is_fault {
-            push_colored(&mut lines.text, FAULT, line)?;
-            return lines.end_line();
-        }
-        let at = first_hash(line);
-        lines.text.push_str(&line[..at])?;
-        if at < line.len() {
-            push_colored(&mut lines.text, MEANING, &line[at..])?;
-        }
-        lines.end_line()
+        let added = write_colored(&mut *lines, self.line.as_str(), is_fault);
+        lines.end_line(added)
     }
 
     /// Writes the lines that wait.
-    fn finish(&self) -> io::Result<()> {
+    fn finish(&self) -> Result<(), FaultKept> {
         self.lines()?.finish()
     }
 
     /// Prints the verdict after the rows.
-    fn end(&mut self, verdict: &Verdict) -> io::Result<()> {
+    fn end(&mut self, verdict: &Verdict) -> Result<(), FaultKept> {
         self.end_body()?;
         self.line.clear();
-        write!(self.line, "# {verdict}")?;
+        let written = write_verdict(&mut self.line, verdict);
+        self.fits(written)?;
         self.put_line(true)
     }
 }
@@ -179,7 +180,8 @@ impl<W: io::Write> Printer<'_, W> {
 impl<W: io::Write> Rows for Printer<'_, W> {
     ghost use Rattle.std.specs.Prelude.{None};
 
-    type Error = io::Error;
+    /// The lines keep the error of the writer, or one that says that there is no memory for a line.
+    type Error = FaultKept;
 
     ghost drawn = { λ _. None };
 
@@ -187,8 +189,8 @@ impl<W: io::Write> Rows for Printer<'_, W> {
     ///
     /// # Errors
     ///
-    /// The error is that of the writer, or says that there is no memory for the line.
-    fn row(&mut self, row: Row<'_>) -> io::Result<()> {
+    /// There is a fault of the lines.
+    fn row(&mut self, row: Row<'_>) -> Result<(), FaultKept> {
         self.below = level_below(&row);
         if matches!(row.meaning, Meaning::Bytes | Meaning::Text) {
             return self.put_body(&row);
@@ -202,21 +204,56 @@ impl<W: io::Write> Levels for Printer<'_, W> {
     fn below(&self) -> usize {
         self.below
     }
+
+    fn take_fault(&mut self) -> io::Error {
+        match self.lines() {
+            Ok(mut lines) => lines.take_fault(),
+            Err(FaultKept) => io::Error::from(io::ErrorKind::Other),
+        }
+    }
 }
 
 /// Writes the text of a row, with its offset if offsets are wanted.
-fn write_row(text: &mut String, row: &Row<'_>, offsets: bool) -> Result<(), AllocError> {
+fn write_row<T: Write>(text: &mut T, row: &Row<'_>, offsets: bool) -> fmt::Result {
     if offsets {
         write!(text, "{:6}: ", row.offset)?;
     }
-    write!(text, "{row}")
+    text.write(*row)
 }
 
-/// Adds a part of a line in this color.
-fn push_colored(text: &mut String, color: &str, part: &str) -> Result<(), AllocError> {
-    text.push_str(color)?;
-    text.push_str(part)?;
-    text.push_str(PLAIN)
+/// Writes how many bytes of a body were hidden, after as many spaces as a row of them begins with.
+fn write_hidden<T: Write>(text: &mut T, hidden: Hidden, offsets: bool) -> fmt::Result {
+    let columns = if offsets { OFFSET_COLUMNS } else { 0 };
+    for _ in 0..hidden.indent.saturating_add(columns) {
+        text.write_str(" ")?;
+    }
+    let plural = if hidden.bytes == 1 { "" } else { "s" };
+    write!(text, "# ... {} more byte{plural}", hidden.bytes)
+}
+
+/// Writes a verdict as a comment.
+fn write_verdict<T: Write>(text: &mut T, verdict: &Verdict) -> fmt::Result {
+    write!(text, "# {verdict}")
+}
+
+/// Writes a line with its color: the part from the first `#` on, or all of it if it is a fault.
+fn write_colored<T: Write>(text: &mut T, line: &str, is_fault: bool) -> fmt::Result {
+    if is_fault {
+        return write_in(text, FAULT, line);
+    }
+    let at = first_hash(line);
+    text.write_str(&line[..at])?;
+    if at < line.len() {
+        write_in(text, MEANING, &line[at..])?;
+    }
+    Ok(())
+}
+
+/// Writes a part of a line in this color.
+fn write_in<T: Write>(text: &mut T, color: &str, part: &str) -> fmt::Result {
+    text.write_str(color)?;
+    text.write_str(part)?;
+    text.write_str(PLAIN)
 }
 
 /// Returns the index of the first `#`, or the length of the line if it has none.
@@ -258,7 +295,7 @@ pub fn dump_input<R: io::Read + Drop, W: io::Write + Drop>(
     options: Options,
     colors: bool,
 ) -> Result<(), Verdict> {
-    let output = RefCell::new(Lines::new(alloc, writer));
+    let output = RefCell::new(Lines::new(writer));
     let mut printer = Printer {
         line: String::new(alloc),
         output: &output,
@@ -278,7 +315,7 @@ pub fn dump_input<R: io::Read + Drop, W: io::Write + Drop>(
     let flushed = printer.finish();
     match (ended, flushed) {
         (Ok(()), Ok(())) => outcome,
-        (Err(error), _) | (Ok(()), Err(error)) => Err(Verdict::Output(error)),
+        _ => Err(Verdict::Output(printer.take_fault())),
     }
 }
 
@@ -303,13 +340,13 @@ fn dump_held<R: io::Read + Drop, W: io::Write>(
     }
     match holder.let_go() {
         Ok(()) => outcome,
-        Err(error) => Err(Verdict::Output(error)),
+        Err(FaultKept) => Err(Verdict::Output(holder.take_fault())),
     }
 }
 
 /// Prints the rows of a part of a reader's bytes, from their start, and the bytes that are left of a title or of a body
 /// after them. It prints nothing of the items that are passed over.
-fn dump_rows<R: io::Read + Drop, S: Levels + Rows<Error = io::Error>>(
+fn dump_rows<R: io::Read + Drop, S: Levels + Rows<Error = FaultKept>>(
     reader: R,
     rows: &mut S,
     options: Options,
@@ -345,7 +382,7 @@ fn dump_rows<R: io::Read + Drop, S: Levels + Rows<Error = io::Error>>(
 
 /// Prints the rows of the bytes that a decoder reads, and the bytes that are left of a title or of a body after them.
 /// Returns the answer of the dump, and the offset at which the rows ended.
-fn print_all<R: Read, S: Levels + Rows<Error = io::Error>>(
+fn print_all<R: Read, S: Levels + Rows<Error = FaultKept>>(
     decoder: &mut Decoder<R>,
     rows: &mut S,
     options: Options,
@@ -358,19 +395,33 @@ where
     let outcome = print_rows(decoder, options.depth, options.spelling, rows);
     let offset = decoder.offset();
     let outcome = show_left(decoder, outcome, rows.below(), rows);
-    (outcome, offset)
+    (with_fault(outcome, rows), offset)
+}
+
+/// Returns the answer of a dump with the fault that was kept.
+fn with_fault<E, S: Levels>(
+    outcome: Result<E, DumpError<E, FaultKept>>,
+    rows: &mut S,
+) -> Result<E, DumpError<E, io::Error>>
+    ensures { TellsKept outcome result }
+{
+    match outcome {
+        Ok(end) => Ok(end),
+        Err(DumpError::Item(error)) => Err(DumpError::Item(error)),
+        Err(DumpError::Rows(FaultKept)) => Err(DumpError::Rows(rows.take_fault())),
+    }
 }
 
 /// Prints the rows of the bytes that a decoder reads. The decoder is as strict as the dump.
 ///
 /// If every row was printed, a steady reader tells its bytes and the offset fits, `Ok` comes exactly if the bytes are a
 /// sequence of items. Otherwise the error names the first fault after the whole items, with its offset.
-fn print_rows<R: Read, S: Rows<Error = io::Error>>(
+fn print_rows<R: Read, S: Rows<Error = FaultKept>>(
     decoder: &mut Decoder<R>,
     depth: usize,
     spelling: Spelling,
     rows: &mut S,
-) -> Result<R::Error, DumpError<R::Error, io::Error>>
+) -> Result<R::Error, DumpError<R::Error, FaultKept>>
 where
     R::Error: Drop,
     requires shallow { depth ≤ MOST_LEVELS }
@@ -378,8 +429,8 @@ where
     ensures exactly { (due : List ℕ) → CanRead R.Read most_bytes decoder.old due → AreRowsTaken result
         → (IsOk result ↔ IsSequence spelling depth due) }
     ensures told { (due : List ℕ) → CanRead R.Read most_bytes decoder.old due → AreRowsTaken result
-        → FindsBehindRows spelling depth due (offset_of decoder.old)
-        (dump_said result None (offset_of decoder.new)) }
+        → (told : Result R.Error (AnyError R.Error IoError)) → TellsKept result told
+        → FindsBehindRows spelling depth due (offset_of decoder.old) (dump_said told None (offset_of decoder.new)) }
     ensures reads { AreRowsTaken result → ReadsAsCheck R.Read depth decoder.old result decoder.new }
 {
     dump(decoder, depth, spelling, rows)

@@ -1,89 +1,186 @@
 //! Lines that are written many at a time.
 
-use std::alloc::{AllocError, Global};
-use std::io;
+ghost use Rattle.std.specs.Prelude.{◌≡◌, ◌≤◌, ◌∷◌, [], IsOk, OnOk};
+ghost use Rattle.std.specs.Io.KnownBytes.{Appends, Keeps};
+ghost use Rattle.tool_files.specs.declared.lines.TheConstants.{LINE_FEED, MOST};
+
+use ciborium_ll::io::FaultKept;
+use std::fmt::Write;
+use std::{fmt, io};
 
 /// How many bytes of lines are written at once.
 const AT_ONCE: usize = 8192;
 
-/// Lines that wait to be written. They are written if they are many, or if they are flushed. A line that has no end is
-/// never written.
+/// The byte that ends a line.
+const LINE_FEED: u8 = b'\n';
+
+/// How many bytes wait at most: those, and a line of 1,024 bytes.
+const MOST: usize = 9216;
+
+/// Lines that wait to be written. They are written if they are many, or if they are flushed. A line that has no end
+/// waits, unless it has no room: more than [`MOST`] bytes wait then with it.
+///
+/// An `io::Error` has many bytes, which each function that returns one clears and copies. So the lines keep the first
+/// fault, and a call answers only that there is one. After a fault nothing more is written until it is taken.
 #[derive(Drop)]
 pub(crate) struct Lines<W> {
-    /// The whole lines, and the beginning of one more.
-    pub(crate) text: String,
+    bytes: [u8; MOST],
+    /// How many bytes the whole lines have, and the beginning of one more.
+    len: usize,
     /// How many bytes the whole lines have.
     whole: usize,
     writer: W,
-    /// Why a flush failed. The next write of lines fails so.
+    /// Why a write or a flush failed.
     fault: Option<io::Error>,
+    ghost within: { len ≤ MOST },
 }
 
 impl<W: io::Write> Lines<W> {
+    ghost use Rattle.tool_files.specs.Lines.{lines_text};
+
     /// Makes a text without lines.
-    pub(crate) fn new(alloc: Global, writer: W) -> Lines<W> {
+    pub(crate) fn new(writer: W) -> Lines<W>
+        ensures { lines_text W.contents result ≡ W.contents writer }
+    {
         Lines {
-            text: String::new(alloc),
+            bytes: [0; MOST],
+            len: 0,
             whole: 0,
             writer,
             fault: None,
         }
     }
 
-    /// Ends the line.
+    /// Ends a line whose text was added with this outcome.
     ///
     /// # Errors
     ///
-    /// The error of the writer, or of a flush since the last write. It says also that there is no memory for the line.
-    pub(crate) fn end_line(&mut self) -> io::Result<()> {
-        self.text.push('\n')?;
-        self.whole = self.text.len();
+    /// The text was not added, or there is a fault.
+    pub(crate) fn end_line(&mut self, added: fmt::Result) -> Result<(), FaultKept>
+        ensures { OnOk result
+            (Appends (lines_text W.contents self.old) (lines_text W.contents self.new) (LINE_FEED ∷ [])) }
+    {
+        if added.is_err() || self.write_str("\n").is_err() {
+            return Err(FaultKept);
+        }
+        self.whole = self.len;
         if self.whole < AT_ONCE {
             return Ok(());
         }
-        self.send()
+        self.send(self.whole)
     }
 
     /// Writes the whole lines, and flushes the writer.
     ///
     /// # Errors
     ///
-    /// The error of the writer, or of a flush since the last write.
-    pub(crate) fn finish(&mut self) -> io::Result<()> {
-        self.send()?;
-        self.writer.flush()
+    /// There is a fault.
+    pub(crate) fn finish(&mut self) -> Result<(), FaultKept>
+        ensures { OnOk result (Keeps (lines_text W.contents self.old) (lines_text W.contents self.new)) }
+    {
+        self.send(self.whole)?;
+        let flushed = self.writer.flush();
+        self.noted(flushed)
     }
 
-    /// Writes the whole lines.
-    fn send(&mut self) -> io::Result<()> {
-        if let Some(error) = self.fault.take() {
-            return Err(error);
+    /// Keeps a fault, unless there is one.
+    pub(crate) fn keep(&mut self, fault: io::Error)
+        ensures text { lines_text W.contents self.new ≡ lines_text W.contents self.old }
+        ensures len { self.new.len ≡ self.old.len }
+    {
+        if self.fault.is_none() {
+            self.fault = Some(fault);
         }
-        let bytes = self.text.as_bytes();
-        let whole = self.whole.min(bytes.len());
-        let outcome = self.writer.write_all(&bytes[..whole]);
-        self.text.clear();
+    }
+
+    /// Takes the fault.
+    pub(crate) fn take_fault(&mut self) -> io::Error
+        ensures { lines_text W.contents self.new ≡ lines_text W.contents self.old }
+    {
+        let fault = self.fault.take();
+        fault.unwrap_or(io::Error::from(io::ErrorKind::Other))
+    }
+
+    /// Writes this many of the bytes that wait. The others wait on.
+    fn send(&mut self, count: usize) -> Result<(), FaultKept>
+        ensures keeps { OnOk result (Keeps (lines_text W.contents self.old) (lines_text W.contents self.new)) }
+        ensures all { self.old.len ≤ count → OnOk result (self.new.len ≡ 0) }
+    {
+        if self.fault.is_some() {
+            return Err(FaultKept);
+        }
+        let count = count.min(self.len);
+        let written = self.writer.write_all(&self.bytes[..count]);
+        self.bytes.copy_within(count..self.len, 0);
+        self.len -= count;
         self.whole = 0;
-        outcome
+        self.noted(written)
+    }
+
+    /// Writes the bytes that wait, and then a part of a line for which there is no room.
+    #[cold]
+    #[inline(never)]
+    fn write_on(&mut self, part: &[u8]) -> Result<(), FaultKept>
+        ensures { OnOk result (Appends (lines_text W.contents self.old) (lines_text W.contents self.new) part.now) }
+    {
+        self.send(self.len)?;
+        let written = self.writer.write_all(part);
+        self.noted(written)
+    }
+
+    /// Keeps the fault of a call of the writer, if it failed.
+    fn noted(&mut self, outcome: io::Result<()>) -> Result<(), FaultKept>
+        ensures text { lines_text W.contents self.new ≡ lines_text W.contents self.old }
+        ensures len { self.new.len ≡ self.old.len }
+        ensures ok { OnOk result (IsOk outcome) }
+    {
+        match outcome {
+            Ok(()) => Ok(()),
+            Err(fault) => {
+                self.keep(fault);
+                Err(FaultKept)
+            }
+        }
+    }
+}
+
+impl<W: io::Write> fmt::Write for Lines<W> {
+    ghost use Rattle.tool_files.specs.Lines.{lines_text};
+
+    ghost write_str_gives = { λ old part new. Appends (lines_text W.contents old) (lines_text W.contents new) part };
+
+    /// Adds a part of a line.
+    ///
+    /// # Errors
+    ///
+    /// There is no room for it, and a fault.
+    #[inline(always)]
+    fn write_str(&mut self, part: &str) -> fmt::Result {
+        let bytes = part.as_bytes();
+        if bytes.len() > MOST - self.len {
+            return self.write_on(bytes).map_err(|_| fmt::Error);
+        }
+        let end = self.len + bytes.len();
+        self.bytes[self.len..end].copy_from_slice(bytes);
+        self.len = end;
+        Ok(())
     }
 }
 
 impl<W: io::Write> io::Write for Lines<W> {
-    /// Writes the whole lines, and then these bytes.
+    /// Writes all bytes that wait, and then these.
     fn write(&mut self, buf: &[u8]) -> io::Result<usize> {
-        self.send()?;
-        self.writer.write(buf)
+        match self.send(self.len) {
+            Ok(()) => self.writer.write(buf),
+            Err(FaultKept) => Err(self.take_fault()),
+        }
     }
 
-    /// Writes the whole lines, and flushes the writer. If that fails, the next write of lines fails too.
+    /// Writes the whole lines, and flushes the writer. The lines keep a fault, and the error says only that there is one.
     fn flush(&mut self) -> io::Result<()> {
         match self.finish() {
             Ok(()) => Ok(()),
-            Err(error) => {
-                let kind = error.kind();
-                self.fault = Some(error);
-                Err(io::Error::from(kind))
-            }
+            Err(FaultKept) => Err(io::Error::from(io::ErrorKind::Other)),
         }
     }
 }

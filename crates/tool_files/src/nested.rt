@@ -12,6 +12,7 @@ use cbor_dump::embedded::{Deepen, dump_body};
 use cbor_dump::rows::{Meaning, Row, Rows, Within};
 use cbor_embedded::{ENCODED_ITEM, Embedded};
 use ciborium_ll::{Header, Spelling};
+use std::io;
 use std::marker::PhantomData;
 
 /// At most eight byte strings that contain one another are shown as items.
@@ -117,6 +118,9 @@ impl<B: Bodies> Bodies for Deeper<B> {
 pub(crate) trait Levels: Rows {
     /// Returns the level of a part of the last row's title or body.
     fn below(&self) -> usize;
+
+    /// Takes the fault with which a row was refused.
+    fn take_fault(&mut self) -> io::Error;
 }
 
 /// Takes rows, and holds those of a byte string's body until all of them have come. If the body is one item, the rows of
@@ -282,9 +286,13 @@ impl<B: Bodies, S: Rows> Rows for Holder<'_, B, S> {
     }
 }
 
-impl<B: Bodies, S: Rows> Levels for Holder<'_, B, S> {
+impl<B: Bodies, S: Levels> Levels for Holder<'_, B, S> {
     fn below(&self) -> usize {
         self.below
+    }
+
+    fn take_fault(&mut self) -> io::Error {
+        self.rows.take_fault()
     }
 }
 

@@ -1,0 +1,15 @@
+-- The text of lines that are written many at a time.
+use Rattle.std.specs.Prelude.{ℕ, List, take}
+use Rattle.std.specs.declared.option.Option.{Option}
+use Rattle.std.specs.Io.KnownBytes.{append_known}
+use Rattle.tool_files.specs.declared.lines.Lines.{Lines}
+
+module _ {W : Type 0} where
+  -- The bytes that wait: `61 0a 62`, if a line `a` and the beginning `b` of one more were added.
+  abbrev pub lines_waiting : Lines W → List ℕ
+  lines_waiting lines = take lines.len lines.bytes
+
+  -- The bytes so far, if the writer tells its bytes: those, and then the bytes that wait. `61 0a` in the writer and `62`
+  -- that waits are `61 0a 62`.
+  abbrev pub lines_text : (W → Option (List ℕ)) → Lines W → Option (List ℕ)
+  lines_text contents lines = append_known (contents lines.writer) (lines_waiting lines)
