@@ -3,7 +3,7 @@ use Rattle.std.proofs.lemmas.Bool.Decides.{nat_tests}
 use Rattle.std.proofs.Common.{◌≡◌, ◌∙◌, ℕ, zero, suc, ◌+◌, ◌<◌, List, [], ◌∷◌, ◌++◌, refl, sym, ap, arith}
 use Rattle.std.proofs.Common.{append-nil, append_assoc, length, take, get_or, Option, None, Some, Result, subst}
 use Rattle.std.proofs.Common.{◌⊎◌, inl, inr, ◌-◌, ◌*◌, ◌/◌, ◌^◌, ◌≤◌, min, nat_le, length-append, Bool, true, false}
-use Rattle.std.proofs.Common.{codes, le-leb}
+use Rattle.std.proofs.Common.{codes, if◌then◌else◌, le-leb}
 use Rattle.std.proofs.lemmas.List.{take_more}
 use Rattle.std.proofs.lemmas.Str.{IsUtf8-from_is_utf8, is_utf8-from_IsUtf8}
 use Rattle.std.specs.Result.{MatchResult, result_unwrap_or}
@@ -87,6 +87,13 @@ text_fits most bytes text fits same counted some =
     let short : nat_le (length (characters_text (chars (shown_text bytes)))) most ≡ true =
     subst (λ (z : List ℕ). nat_le (length (characters_text (chars z))) most ≡ true) same (sym counted ∙ some) in
     ap quoted_text same ∙ rw short refl
+
+-- A text that is the same between quotes is the key, or two points.
+pub bare_fits : (most : ℕ) (bytes text : List ℕ) → text ≡ shown_text bytes → text ≡ characters_text (chars text)
+    → (if nat_le (length text) most then 34 ∷ (text ++ 34 ∷ []) else no_key) ≡ text_key most bytes
+bare_fits most bytes text same bare =
+    ap (λ (z : List ℕ). if nat_le (length z) most then 34 ∷ (z ++ 34 ∷ []) else no_key) bare
+    ∙ ap (λ (z : List ℕ). if nat_le (length (characters_text (chars z))) most then quoted_text z else no_key) same
 
 -- The text is that of the bytes if they are UTF-8, and otherwise the given one.
 pub text_or_none : {B E : Type 0} (Rest : E → Type 0) (now : B → List ℕ) (bytes : List ℕ) (result : Result B E)

@@ -1,7 +1,7 @@
 //! The rows of a dump, and their text.
 
 ghost use Rattle.std.specs.Prelude.{◌≡◌, ◌+◌, ◌*◌, ◌<◌, ◌≤◌, ◌^◌, ◌++◌, ◌||◌, List, OnErr, OnOk, [], ◌∷◌, None, codes};
-ghost use Rattle.std.specs.Prelude.{decimal, length, nat_le, nat_lt, negsuc, true};
+ghost use Rattle.std.specs.Prelude.{decimal, length, nat_le, nat_lt, negsuc, if◌then◌else◌};
 ghost use Rattle.std.specs.Fmt.{DisplaysOnOk, DisplaysStyledOnOk, WritesOnOk, signed_decimal};
 ghost use Rattle.std.specs.Str.{chars};
 ghost use Rattle.std.specs.declared.option.Option.{Option};
@@ -14,7 +14,7 @@ ghost use Rattle.cbor_dump.specs.RowTexts.{IsHeaderValue, IsRowText, IsValue, Wr
 ghost use Rattle.cbor_dump.specs.RowTexts.{commented_text, header_text, indent, known_text, level_text, more_text};
 ghost use Rattle.cbor_dump.specs.RowTexts.{quoted_text, row_text, shown_text, simple_text, tag_text, width_text};
 ghost use Rattle.cbor_dump.specs.RowTexts.{within_text, bytes_key, key_columns, key_text};
-ghost use Rattle.cbor_dump.specs.RowTexts.{text_key};
+ghost use Rattle.cbor_dump.specs.RowTexts.{no_key, text_key};
 
 use crate::key::Key;
 use crate::numbers::number;
@@ -388,14 +388,24 @@ fn has_columns(text: &str, most: usize) -> bool
     requires few { most ≤ KEY_COLUMNS }
     ensures { result ≡ nat_le (length (characters_text (chars text.now))) most }
 {
-    if are_unescaped(text.as_bytes()) {
-        return text.len() <= most;
-    }
     let mut len = 0usize;
     'characters: for c in text.chars() {
         len = len.saturating_add(character_len(c));
     }
     len <= most
+}
+
+/// Writes a text between quotes as it is, if the columns have room for it.
+fn bare_key<W: fmt::Write>(f: &mut fmt::Formatter<W>, text: &str, most: usize) -> fmt::Result
+    ensures { WritesOnOk W.Write.write_str_gives f.old result
+        (if nat_le (length text.now) most then 34 ∷ (text.now ++ 34 ∷ []) else no_key) f.new }
+{
+    if text.len() > most {
+        return f.write_str("..");
+    }
+    f.write_str("\"")?;
+    f.write_str(text)?;
+    f.write_str("\"")
 }
 
 /// Writes the text of a key, if the columns have room for it.
@@ -404,6 +414,9 @@ fn text_key<W: fmt::Write>(f: &mut fmt::Formatter<W>, bytes: &[u8], most: usize)
     ensures { WritesOnOk W.Write.write_str_gives f.old result (text_key most bytes.now) f.new }
 {
     let text = text_of(bytes);
+    if are_unescaped(text.as_bytes()) {
+        return bare_key(f, text, most);
+    }
     if !has_columns(text, most) {
         return f.write_str("..");
     }

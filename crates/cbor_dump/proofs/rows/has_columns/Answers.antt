@@ -1,16 +1,10 @@
-use Rattle.std.proofs.Common.{◌≡◌, ◌∙◌, ◌-◌, ◌^◌, List, ℕ, ap, length, map-id, min, nat_le, subst, sym}
+use Rattle.std.proofs.Common.{◌≡◌, ◌∙◌, ◌-◌, ◌^◌, List, ℕ, ap, length, map-id, min, sym}
 use Rattle.std.proofs.lemmas.Iterator.{YieldsList-from_chars}
 use Rattle.std.proofs.lemmas.Iterator.Consumers.{YieldsList-end}
 use Rattle.std.specs.Str.{chars}
-use Rattle.cbor_escapes.specs.Escapes.{AreUnescaped}
 use Rattle.cbor_dump.specs.RowTexts.{characters_text}
 use Rattle.cbor_dump.proofs.RowTextLaws.{at_most, more_columns}
-use Rattle.cbor_dump.proofs.TableLaws.{plain_shown}
 use Rattle.cbor_dump.proofs.rows.has_columns.Goals as goal
-
-pub returns-then-are_unescaped : goal.returns-then-are_unescaped
-returns-then-are_unescaped c = ap (λ (z : List ℕ). nat_le (length z) c.args.most) (plain_shown c.args.text.now
-    (subst (λ (z : List ℕ). AreUnescaped z) c.as_bytes.ensures.value (c.are_unescaped.ensures.0 c.if-are_unescaped.true)))
 
 pub characters-preserved : goal.characters-preserved
 characters-preserved c =
