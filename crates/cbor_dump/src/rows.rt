@@ -167,7 +167,7 @@ fn more_digits<W: fmt::Write>(f: &mut fmt::Formatter<W>, bytes: &[u8]) -> fmt::R
 }
 
 /// Writes an indent of this many levels.
-fn indented<W: fmt::Write>(f: &mut fmt::Formatter<W>, levels: usize) -> fmt::Result
+fn write_indent<W: fmt::Write>(f: &mut fmt::Formatter<W>, levels: usize) -> fmt::Result
     ensures { WritesOnOk W.Write.write_str_gives f.old result (blank (STEP * levels)) f.new }
 {
     'levels: for _level in 0..levels {
@@ -186,7 +186,7 @@ fn digits<W: fmt::Write>(
     ensures { WritesOnOk W.Write.write_str_gives f.old result
         (blank (STEP * levels) ++ (digits_text bytes.now ++ end.now)) f.new }
 {
-    indented(f, levels)?;
+    write_indent(f, levels)?;
     if let [first, rest @ ..] = bytes {
         f.write_str(digits_of(*first))?;
         more_digits(f, rest)?;

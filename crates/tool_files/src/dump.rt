@@ -87,8 +87,8 @@ impl<W: io::Write> Printer<'_, W> {
         self.output.try_borrow_mut().map_err(|_| FaultKept)
     }
 
-    /// Keeps the fault that there is no memory for a line, if there is none.
-    fn fits(&self, written: fmt::Result) -> Result<(), FaultKept> {
+    /// Answers a write of a line to memory. If it failed, the lines keep the fault that there is no memory.
+    fn check_memory(&self, written: fmt::Result) -> Result<(), FaultKept> {
         if written.is_ok() {
             return Ok(());
         }
@@ -101,7 +101,7 @@ impl<W: io::Write> Printer<'_, W> {
         if self.colors {
             self.line.clear();
             let written = write_row(&mut self.line, row, self.offsets);
-            self.fits(written)?;
+            self.check_memory(written)?;
             return self.put_colored(is_fault);
         }
         let mut lines = self.lines()?;
@@ -118,7 +118,7 @@ impl<W: io::Write> Printer<'_, W> {
         if self.hidden.bytes == 0 {
             self.line.clear();
             let written = write_row(&mut self.line, row, false);
-            self.fits(written)?;
+            self.check_memory(written)?;
             self.hidden.indent = first_digit(self.line.as_str());
         }
         self.hidden.bytes = self.hidden.bytes.saturating_add(row.bytes.len());
@@ -141,7 +141,7 @@ impl<W: io::Write> Printer<'_, W> {
         self.hidden = NONE_HIDDEN;
         self.line.clear();
         let written = write_hidden(&mut self.line, hidden, self.offsets);
-        self.fits(written)?;
+        self.check_memory(written)?;
         self.put_line(false)
     }
 
@@ -172,7 +172,7 @@ impl<W: io::Write> Printer<'_, W> {
         self.end_body()?;
         self.line.clear();
         let written = write_verdict(&mut self.line, verdict);
-        self.fits(written)?;
+        self.check_memory(written)?;
         self.put_line(true)
     }
 }

@@ -1,7 +1,7 @@
 use Rattle.std.proofs.Common.{◌*◌, refl}
 use Rattle.cbor_dump.specs.RowTexts.{blank}
 use Rattle.cbor_dump.proofs.RowTextLaws.{one_level_more, then_written}
-use Rattle.cbor_dump.proofs.rows.indented.Goals as goal
+use Rattle.cbor_dump.proofs.rows.write_indent.Goals as goal
 
 pub levels-preserved : goal.levels-preserved
 levels-preserved g c =
