@@ -40,7 +40,7 @@ use Rattle.cbor_diag.specs.declared.DiagError.{DiagError}
 use Rattle.cbor_diag.specs.declared.DiagError.TheVariants as d
 use Rattle.cbor_diag.specs.Showing.{ShowsText}
 use Rattle.cbor_diag.specs.StringShows.{BodyUnshown, CopiesQuoted, IsShownFront, ShowsBody, closing, opening}
-use Rattle.cbor_diag.proofs.PassedLaws.{body_text-nil, passed_body, passed_text-append, plain_stands}
+use Rattle.cbor_diag.proofs.PassedLaws.{body_text-nil, passed_body, passed_text-append, unescaped_stands}
 use Rattle.cbor_diag.proofs.QuotedLaws.{front_longer}
 
 -- Two targets that are told to be the same are equal.
@@ -136,14 +136,14 @@ front_cut Text bytes front shown cut = (
   λ whole. omega (arith, front_of_all bytes front (drop (length front) bytes) shown whole, cut),
 )
 
--- A text of plain characters is shown whole, as it is.
-pub plain_whole : (kind : Kind) (quotes : Quotes) (bytes : List ℕ) → quotes ≡ kind_quotes kind → quotes ≡ q.Text
+-- A text of characters without escapes is shown whole, as it is.
+pub unescaped_whole : (kind : Kind) (quotes : Quotes) (bytes : List ℕ) → quotes ≡ kind_quotes kind → quotes ≡ q.Text
     → AreUnescaped bytes → IsShownFront kind bytes bytes × (passed_text quotes h.Nothing bytes ≡ bytes)
-plain_whole Bytes quotes bytes is text plain = absurd (cc)
-plain_whole Text quotes bytes is text plain = (
+unescaped_whole Bytes quotes bytes is text none = absurd (cc)
+unescaped_whole Text quotes bytes is text none = (
   rw (drop_all (length bytes) bytes (omega arith)) (front_of_text bytes
-      (from_std bytes (IsUtf8-from_ascii bytes (unescaped_ascii bytes plain)))),
-  rw text (plain_stands bytes plain).0,
+      (from_std bytes (IsUtf8-from_ascii bytes (unescaped_ascii bytes none)))),
+  rw text (unescaped_stands bytes none).0,
 )
 
 module _ {R E W F : Type 0} (source : Reader R E) (sink : Writer W F) (kind : Kind) (quotes : Quotes)

@@ -238,20 +238,20 @@ stand_more bytes byte so_far itself is =
       passed_held-append q.Text h.Nothing bytes (byte ∷ []) ∙ rw (so_far.1) one.none,
     )
 
--- A plain character stands for itself.
-plain_itself : (c : ℕ) → IsUnescaped c → (is_lead c ≡ false) × (byte_notation c ≡ c ∷ [])
-plain_itself c plain = (grind (arith, nat_tests, plain), grind (arith, nat_tests, encode_ascii, plain))
+-- A character without an escape stands for itself.
+unescaped_itself : (c : ℕ) → IsUnescaped c → (is_lead c ≡ false) × (byte_notation c ≡ c ∷ [])
+unescaped_itself c none = (grind (arith, nat_tests, none), grind (arith, nat_tests, encode_ascii, none))
 
-plain_shown : (cs : List ℕ) → AreUnescaped cs → IsShownAs cs cs
-plain_shown [] plain = nothing
-plain_shown (c ∷ cs) plain =
-    let itself = plain_itself c (plain 0 (omega arith)) in
-    let rest = plain_shown cs (rest_unescaped c cs plain) in
+unescaped_shown : (cs : List ℕ) → AreUnescaped cs → IsShownAs cs cs
+unescaped_shown [] none = nothing
+unescaped_shown (c ∷ cs) none =
+    let itself = unescaped_itself c (none 0 (omega arith)) in
+    let rest = unescaped_shown cs (rest_unescaped c cs none) in
     subst (λ (z : List ℕ). IsShownAs (c ∷ cs) (z ++ cs)) itself.1 (alone c cs cs itself.0 rest)
 
--- Plain characters stand for themselves.
-pub plain_stands : (cs : List ℕ) → AreUnescaped cs → StandAlone cs
-plain_stands cs plain = let shown = plain_shown cs plain in (shown.text_is, shown.none)
+-- Characters without escapes stand for themselves.
+pub unescaped_stands : (cs : List ℕ) → AreUnescaped cs → StandAlone cs
+unescaped_stands cs none = let shown = unescaped_shown cs none in (shown.text_is, shown.none)
 
 -- ---- whole characters
 

@@ -42,15 +42,15 @@ pub(crate) trait Bodies: Sized {
         body: &[u8],
         mark: Mark,
         depth: usize,
-        line: Line,
+        line: &Line,
         memory: &mut [u8],
     ) -> Result<(), W::Error>
         requires levels { 0 < depth }
-        requires shallow { line.level + depth ≤ MOST_LEVELS }
-        ensures { is_held (place_of line strings depth (length body.now + length memory.old))
+        requires shallow { line.now.level + depth ≤ MOST_LEVELS }
+        ensures { is_held (place_of line.now strings depth (length body.now + length memory.old))
             (Header.Bytes (Some (length body.now))) ≡ true
             → ShowsKept W.Write (fails_inside ⟦<SliceReader<'static> as Read>⟧ W.Write strings)
-            (place_of line strings depth (length body.now + length memory.old)) mark body.now writer.old result
+            (place_of line.now strings depth (length body.now + length memory.old)) mark body.now writer.old result
             writer.new };
 }
 
@@ -70,7 +70,7 @@ impl Bodies for Flat {
         _body: &[u8],
         _mark: Mark,
         _depth: usize,
-        _line: Line,
+        _line: &Line,
         _memory: &mut [u8],
     ) -> Result<(), W::Error> {
         // No string is held here, so no call comes to this.
@@ -94,14 +94,14 @@ impl<B: Bodies> Bodies for Nested<B> {
         body: &[u8],
         mark: Mark,
         depth: usize,
-        line: Line,
+        line: &Line,
         memory: &mut [u8],
     ) -> Result<(), W::Error> {
         if !is_one_item(body, depth - 1, Spelling::Any) {
             return put_quoted(writer, body, mark);
         }
         put(writer, b"<<")?;
-        show_embedded::<W, B>(writer, body, depth - 1, line.inside(), memory)?;
+        show_embedded::<W, B>(writer, body, depth - 1, &line.inside(), memory)?;
         put_marked(writer, b">>", mark)
     }
 }
@@ -120,13 +120,13 @@ fn show_embedded<W: Write, B: Bodies>(
     writer: &mut W,
     item: &[u8],
     depth: usize,
-    line: Line,
+    line: &Line,
     memory: &mut [u8],
 ) -> Result<(), W::Error>
     requires item { IsItem Any depth item.now }
-    requires shallow { line.level + depth ≤ MOST_LEVELS }
+    requires shallow { line.now.level + depth ≤ MOST_LEVELS }
     ensures { ShowsInside ⟦<SliceReader<'static> as Read>⟧ W.Write B.strings
-        (place_of line B.strings depth (length memory.old)) item.now writer.old result writer.new }
+        (place_of line.now B.strings depth (length memory.old)) item.now writer.old result writer.new }
 {
     let mut decoder = Decoder::from(SliceReader::new(item));
     match show_one::<SliceReader<'_>, W, B>(&mut decoder, writer, depth, line, memory) {
@@ -140,11 +140,11 @@ fn show_embedded<W: Write, B: Bodies>(
 pub(crate) fn held_len<B: Bodies>(
     header: Header,
     depth: usize,
-    line: Line,
+    line: &Line,
     room: usize,
 ) -> Option<usize>
-    ensures { MatchOption result (is_held (place_of line B.strings depth room) header ≡ false)
-        (λ len. (header ≡ Header.Bytes (Some len)) × (is_held (place_of line B.strings depth room) header ≡ true)) }
+    ensures { MatchOption result (is_held (place_of line.now B.strings depth room) header ≡ false)
+        (λ len. (header ≡ Header.Bytes (Some len)) × (is_held (place_of line.now B.strings depth room) header ≡ true)) }
 {
     match header {
         Header::Bytes(Some(len)) if holds::<B>(len, depth, line, room) => Some(len),
@@ -153,8 +153,8 @@ pub(crate) fn held_len<B: Bodies>(
 }
 
 /// Returns whether a byte string of this length is read into memory of this room before it is shown.
-fn holds<B: Bodies>(len: usize, depth: usize, line: Line, room: usize) -> bool
-    ensures { result ≡ is_held (place_of line B.strings depth room) (Header.Bytes (Some len)) }
+fn holds<B: Bodies>(len: usize, depth: usize, line: &Line, room: usize) -> bool
+    ensures { result ≡ is_held (place_of line.now B.strings depth room) (Header.Bytes (Some len)) }
 {
     line.is_asked && B::are_followed() && depth > 0 && len <= room
 }

@@ -55,9 +55,9 @@ impl Line {
     }
 
     /// Returns the line of the content of a header.
-    pub(crate) fn within(self, header: Header) -> Line
-        requires { self.level < MOST_LEVELS }
-        ensures { result ≡ line_within header self }
+    pub(crate) fn within(&self, header: Header) -> Line
+        requires { self.now.level < MOST_LEVELS }
+        ensures { result ≡ line_within header self.now }
     {
         let level = match header {
             Header::Array(_) | Header::Map(_) => self.level + 1,
@@ -72,8 +72,8 @@ impl Line {
     }
 
     /// Returns the line of the item that a byte string of this line contains.
-    pub(crate) fn inside(self) -> Line
-        ensures { result ≡ line_inside self }
+    pub(crate) fn inside(&self) -> Line
+        ensures { result ≡ line_inside self.now }
     {
         Line {
             style: self.style,
@@ -87,13 +87,14 @@ impl Line {
     #[inline(always)]
     #[tactic(auto, using(crate::proofs::ShowLaws::writes))]
     pub(crate) fn before<W: Write>(
-        self,
+        &self,
         writer: &mut W,
-        nest: Marked,
+        nest: &Marked,
         is_first: bool,
     ) -> Result<(), W::Error>
         ensures { WritesBytes W.Write writer.old result
-            (comma is_first ++ nest_space nest.header nest.mark self.style.layout self.level is_first) writer.new }
+            (comma is_first ++ nest_space nest.now.header nest.now.mark self.now.style.layout self.now.level is_first)
+            writer.new }
     {
         match (self.style.layout, nest.header) {
             _ if is_first => self.space(writer, nest, true),
@@ -107,9 +108,9 @@ impl Line {
 
     /// Writes the space before an item within a tag, an array or a map.
     #[inline(always)]
-    fn space<W: Write>(self, writer: &mut W, nest: Marked, is_first: bool) -> Result<(), W::Error>
+    fn space<W: Write>(&self, writer: &mut W, nest: &Marked, is_first: bool) -> Result<(), W::Error>
         ensures { WritesBytes W.Write writer.old result
-            (nest_space nest.header nest.mark self.style.layout self.level is_first) writer.new }
+            (nest_space nest.now.header nest.now.mark self.now.style.layout self.now.level is_first) writer.new }
     {
         match nest.header {
             Header::Array(len) | Header::Map(len) => {
@@ -123,12 +124,12 @@ impl Line {
     /// Writes the space before an item of an array or a map. `is_apart` says that an underscore follows the bracket.
     #[inline(always)]
     fn item_space<W: Write>(
-        self,
+        &self,
         writer: &mut W,
         is_apart: bool,
         is_first: bool,
     ) -> Result<(), W::Error>
-        ensures { WritesBytes W.Write writer.old result (item_space self.style.layout self.level is_apart is_first)
+        ensures { WritesBytes W.Write writer.old result (item_space self.now.style.layout self.now.level is_apart is_first)
             writer.new }
     {
         match self.style.layout {
@@ -140,13 +141,13 @@ impl Line {
 
     /// Writes the text after the last item, before the closing bracket.
     pub(crate) fn behind<W: Write>(
-        self,
+        &self,
         writer: &mut W,
-        nest: Marked,
+        nest: &Marked,
         is_empty: bool,
     ) -> Result<(), W::Error>
         ensures { WritesBytes W.Write writer.old result
-            (nest_last nest.header nest.mark self.style.layout self.level is_empty) writer.new }
+            (nest_last nest.now.header nest.now.mark self.now.style.layout self.now.level is_empty) writer.new }
     {
         match nest.header {
             Header::Array(len) | Header::Map(len) => {
@@ -160,12 +161,12 @@ impl Line {
     /// Writes the space before the closing bracket of an array or a map. `is_apart` says that an underscore follows the
     /// opening bracket.
     fn last_space<W: Write>(
-        self,
+        &self,
         writer: &mut W,
         is_apart: bool,
         is_empty: bool,
     ) -> Result<(), W::Error>
-        ensures { WritesBytes W.Write writer.old result (last_space self.style.layout self.level is_apart is_empty)
+        ensures { WritesBytes W.Write writer.old result (last_space self.now.style.layout self.now.level is_apart is_empty)
             writer.new }
     {
         match self.style.layout {
@@ -176,8 +177,8 @@ impl Line {
     }
 
     /// Begins a line.
-    fn begin<W: Write>(self, writer: &mut W) -> Result<(), W::Error>
-        ensures { WritesBytes W.Write writer.old result (new_line self.level) writer.new }
+    fn begin<W: Write>(&self, writer: &mut W) -> Result<(), W::Error>
+        ensures { WritesBytes W.Write writer.old result (new_line self.now.level) writer.new }
     {
         put(writer, b"\n")?;
         'levels: for _level in 0..self.level {

@@ -105,7 +105,7 @@ pub fn diagnose<R: Read, W: Write>(
     ensures reads { ReadsShown R.Read depth decoder.old result decoder.new }
 {
     let line = Line::first(style, Embedded::Nowhere);
-    show_one::<R, W, Flat>(decoder, writer, depth, line, &mut [])
+    show_one::<R, W, Flat>(decoder, writer, depth, &line, &mut [])
 }
 
 /// Shows the next item as [`diagnose`] does, and byte strings as the item that they contain (RFC 8949, section 8, and
@@ -141,7 +141,7 @@ pub fn diagnose_embedded<R: Read, W: Write>(
     ensures reads { ReadsShown R.Read depth decoder.old result decoder.new }
 {
     let line = Line::first(style, embedded);
-    show_one::<R, W, Strings>(decoder, writer, depth, line, memory)
+    show_one::<R, W, Strings>(decoder, writer, depth, &line, memory)
 }
 
 /// How many byte strings that contain one another are shown as items: [`MOST_STRINGS`].

@@ -80,6 +80,7 @@ impl Mark {
 }
 
 /// Returns whether a title of this length is longer than the header needs.
+#[inline(always)]
 fn is_long(header: Header, len: usize) -> bool
     ensures { result ≡ is_long header len }
 {
@@ -90,6 +91,7 @@ fn is_long(header: Header, len: usize) -> bool
 }
 
 /// Pulls a header, and returns it with the mark of its title.
+#[inline(always)]
 pub(crate) fn pull_marked<R: Read>(
     decoder: &mut Decoder<R>,
     is_exact: bool,

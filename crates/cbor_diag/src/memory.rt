@@ -33,17 +33,17 @@ pub(crate) fn show_held<R: Read, W: Write, B: Bodies>(
     len: usize,
     mark: Mark,
     depth: usize,
-    line: Line,
+    line: &Line,
     memory: &mut [u8],
 ) -> Result<(), DiagError<R::Error, W::Error>>
     requires none_waits { waiting_of decoder.old ≡ None }
     requires covered { title_len (Header.Bytes (Some len)) ≤ offset_of decoder.old }
-    requires held { is_held (place_of line B.strings depth (length memory.old)) (Header.Bytes (Some len)) ≡ true }
-    requires shallow { line.level + depth ≤ MOST_LEVELS }
+    requires held { is_held (place_of line.now B.strings depth (length memory.old)) (Header.Bytes (Some len)) ≡ true }
+    requires shallow { line.now.level + depth ≤ MOST_LEVELS }
     ensures reads { OnString (λ answer. SkipsString R.Read byte_strings (Some len) BUFFER_SIZE decoder.old answer
         decoder.new) result }
     ensures shown { ShowsRest R.Read W.Write (fails_inside ⟦<SliceReader<'static> as Read>⟧ W.Write B.strings)
-        (place_of line B.strings depth (length memory.old)) (Header.Bytes (Some len)) mark
+        (place_of line.now B.strings depth (length memory.old)) (Header.Bytes (Some len)) mark
         (sides decoder.old writer.old) result (sides decoder.new writer.new) }
     ensures moves_on { MovesOn R.Read decoder.old decoder.new }
 {

@@ -34,12 +34,12 @@ pub(crate) fn show_one<R: Read, W: Write, B: Bodies>(
     decoder: &mut Decoder<R>,
     writer: &mut W,
     depth: usize,
-    line: Line,
+    line: &Line,
     memory: &mut [u8],
 ) -> Result<(), DiagError<R::Error, W::Error>>
-    requires shallow { line.level + depth ≤ MOST_LEVELS }
+    requires shallow { line.now.level + depth ≤ MOST_LEVELS }
     ensures shown { ShowsItemAt R.Read W.Write (fails_inside ⟦<SliceReader<'static> as Read>⟧ W.Write B.strings)
-        (place_of line B.strings depth (length memory.old)) (sides decoder.old writer.old) result
+        (place_of line.now B.strings depth (length memory.old)) (sides decoder.old writer.old) result
         (sides decoder.new writer.new) }
     ensures reads { ReadsShown R.Read depth decoder.old result decoder.new }
 {
@@ -56,17 +56,17 @@ pub(crate) fn show_one<R: Read, W: Write, B: Bodies>(
 pub(crate) fn show_within<R: Read, W: Write, B: Bodies>(
     decoder: &mut Decoder<R>,
     writer: &mut W,
-    nest: Marked,
+    nest: &Marked,
     depth: usize,
-    line: Line,
+    line: &Line,
     memory: &mut [u8],
 ) -> Result<bool, DiagError<R::Error, W::Error>>
-    requires nest { IsNest nest.header }
-    requires shallow { line.level + depth ≤ MOST_LEVELS }
-    ensures reads { OnReading (λ answer. SkipsWithin R.Read nest.header depth BUFFER_SIZE decoder.old answer decoder.new)
-        result }
+    requires nest { IsNest nest.now.header }
+    requires shallow { line.now.level + depth ≤ MOST_LEVELS }
+    ensures reads { OnReading (λ answer. SkipsWithin R.Read nest.now.header depth BUFFER_SIZE decoder.old answer
+        decoder.new) result }
     ensures shown { ShowsWithin R.Read W.Write (fails_inside ⟦<SliceReader<'static> as Read>⟧ W.Write B.strings)
-        (place_of line B.strings depth (length memory.old)) nest.header nest.mark
+        (place_of line.now B.strings depth (length memory.old)) nest.now.header nest.now.mark
         (sides decoder.old writer.old) result (sides decoder.new writer.new) }
     ensures moves_on { MovesOn R.Read decoder.old decoder.new }
 {
@@ -109,18 +109,18 @@ pub(crate) fn show_item<R: Read, W: Write, B: Bodies>(
     marked: Marked,
     place: usize,
     depth: usize,
-    line: Line,
+    line: &Line,
     memory: &mut [u8],
 ) -> Result<(), DiagError<R::Error, W::Error>>
     requires none_waits { waiting_of decoder.old ≡ None }
     requires covered { title_len marked.header ≤ offset_of decoder.old }
     requires no_break { marked.header ≡ Header.Break → ⊥ }
-    requires shallow { line.level + depth ≤ MOST_LEVELS }
+    requires shallow { line.now.level + depth ≤ MOST_LEVELS }
     ensures reads { (before : AnyDecoder R) (outer : Bool) → place ≡ offset_of before
         → PullsTitle R.Read before marked.header decoder.old → (IsSteady R.Read before → IsSteady R.Read decoder.old)
         → OnReading (λ answer. ReadsFrom R.Read outer depth BUFFER_SIZE before answer decoder.new) result }
     ensures shown { ShowsRest R.Read W.Write (fails_inside ⟦<SliceReader<'static> as Read>⟧ W.Write B.strings)
-        (place_of line B.strings depth (length memory.old)) marked.header marked.mark
+        (place_of line.now B.strings depth (length memory.old)) marked.header marked.mark
         (sides decoder.old writer.old) result (sides decoder.new writer.new) }
     ensures moves_on { MovesOn R.Read decoder.old decoder.new }
 {
@@ -132,17 +132,19 @@ pub(crate) fn show_item<R: Read, W: Write, B: Bodies>(
             if depth == 0 {
                 return Err(DiagError::Read(SkipError::Deep(place)));
             }
-            said(open(writer, marked))?;
-            let inner = line.within(marked.header);
+            // Only here is a reference taken, so that the parts of another item's header stay in registers.
+            let nest = marked;
+            said(open(writer, &nest))?;
+            let inner = line.within(nest.header);
             let is_empty = show_within::<R, W, B>(
                 decoder,
                 writer,
-                marked,
+                &nest,
                 depth - 1,
-                inner,
+                &inner,
                 memory,
             )?;
-            said(close(writer, line, marked, is_empty))
+            said(close(writer, line, &nest, is_empty))
         }
         _ => show_plain(decoder, writer, marked, line.style.is_exact),
     }
@@ -152,13 +154,13 @@ pub(crate) fn show_item<R: Read, W: Write, B: Bodies>(
 #[inline(always)]
 fn before<W: Write>(
     writer: &mut W,
-    line: Line,
-    nest: Marked,
+    line: &Line,
+    nest: &Marked,
     is_value: bool,
     is_first: bool,
 ) -> Result<(), W::Error>
     ensures { WritesBytes W.Write writer.old result
-        (item_lead nest.header nest.mark line.style.layout line.level is_value is_first) writer.new }
+        (item_lead nest.now.header nest.now.mark line.now.style.layout line.now.level is_value is_first) writer.new }
 {
     if is_value {
         put(writer, b": ")
@@ -168,8 +170,8 @@ fn before<W: Write>(
 }
 
 /// Writes the text before the items of a tag, an array or a map.
-fn open<W: Write>(writer: &mut W, nest: Marked) -> Result<(), W::Error>
-    ensures { WritesBytes W.Write writer.old result (nest_opening nest.header nest.mark) writer.new }
+fn open<W: Write>(writer: &mut W, nest: &Marked) -> Result<(), W::Error>
+    ensures { WritesBytes W.Write writer.old result (nest_opening nest.now.header nest.now.mark) writer.new }
 {
     match nest.header {
         Header::Tag(number) => {
@@ -185,9 +187,15 @@ fn open<W: Write>(writer: &mut W, nest: Marked) -> Result<(), W::Error>
 }
 
 /// Writes the text after the items of a tag, an array or a map.
-fn close<W: Write>(writer: &mut W, line: Line, nest: Marked, is_empty: bool) -> Result<(), W::Error>
+fn close<W: Write>(
+    writer: &mut W,
+    line: &Line,
+    nest: &Marked,
+    is_empty: bool,
+) -> Result<(), W::Error>
     ensures { WritesBytes W.Write writer.old result
-        (nest_last nest.header nest.mark line.style.layout line.level is_empty ++ nest_closing nest.header) writer.new }
+        (nest_last nest.now.header nest.now.mark line.now.style.layout line.now.level is_empty
+        ++ nest_closing nest.now.header) writer.new }
 {
     line.behind(writer, nest, is_empty)?;
     match nest.header {

@@ -8,6 +8,7 @@ use crate::DiagError;
 use ciborium_ll::io::Write;
 
 /// Writes a text.
+#[inline(always)]
 pub fn put<W: Write>(writer: &mut W, text: &[u8]) -> Result<(), W::Error>
     ensures { WritesBytes W.Write writer.old result text.now writer.new }
 {
@@ -36,6 +37,7 @@ pub(crate) fn put_three<W: Write>(
 }
 
 /// Writes a text. The error is the writer's.
+#[inline(always)]
 pub(crate) fn say<E, W: Write>(writer: &mut W, text: &[u8]) -> Result<(), DiagError<E, W::Error>>
     ensures writing { IfErr result IsWriting }
     ensures written { ShowsText W.Write (Some text.now) writer.old result writer.new }

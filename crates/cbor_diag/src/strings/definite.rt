@@ -49,6 +49,7 @@ pub(super) fn show_definite<R: Read, W: Write, P: Chunked>(
 }
 
 /// Shows this body in quotes.
+#[inline(always)]
 pub(super) fn show_alone<R: Read, W: Write, P: Chunked>(
     decoder: &mut Decoder<R>,
     writer: &mut W,
@@ -73,6 +74,7 @@ pub(super) fn show_alone<R: Read, W: Write, P: Chunked>(
 }
 
 /// Shows the text between the quotes of this body.
+#[inline(always)]
 fn copy_alone<R: Read, W: Write, P: Chunked>(
     decoder: &mut Decoder<R>,
     writer: &mut W,

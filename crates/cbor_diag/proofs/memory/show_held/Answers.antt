@@ -17,7 +17,7 @@ pub returns-in-Ok-clause-shown : goal.returns-in-Ok-clause-shown
 returns-in-Ok-clause-shown g c =
     let kept = rw c.offset.ensures.same at c.in-Ok.ensures.kept in
     let body = one_written (sym c.written.ensures.written) (sym kept.1) in
-    held_shown g.R.Read g.W.Write _ c.args.mark c.args.len c.args.line g.B.Bodies.strings c.args.depth
+    held_shown g.R.Read g.W.Write _ c.args.mark c.args.len c.args.line.now g.B.Bodies.strings c.args.depth
     (length c.args.memory.now) c.requires.held _ c.written.result.now c.args.decoder.now c.args.writer.now
     c.keep_body.new.decoder c.show.new.writer c.show.result c.said.result c.said.ensures.same kept.0 body
     (omega (
@@ -33,6 +33,6 @@ returns-in-Err-clause-shown g c =
     let kept = rw c.offset.ensures.same at c.in-Err.ensures.kept in
     let place : c.offset.result - c.title_len.result ≡ c.args.decoder.now.offset - title_len (h.Bytes (Some c.args.len)) =
     rw (c.offset.ensures.value, c.title_len.ensures.value) refl in
-    held_cut g.R.Read g.W.Write _ c.args.mark c.args.len c.args.line g.B.Bodies.strings c.args.depth
+    held_cut g.R.Read g.W.Write _ c.args.mark c.args.len c.args.line.now g.B.Bodies.strings c.args.depth
     (length c.args.memory.now) c.requires.held _ c.args.decoder.now c.args.writer.now c.keep_body.new.decoder
     c.in-Err.error place kept

@@ -60,7 +60,7 @@ show_item-returns-in-Some-clause-reads g t c = λ before outer at pulled steady.
 pub show_within-items-init : goal.show_within-items-init
 show_within-items-init g t c = record {
   so_far = none_read g.R.Read c.behind-remaining.ensures;
-  items = items_begin g.R.Read g.W.Write _ c.args.nest.header c.args.nest.mark _ _ c.behind-remaining.ensures;
+  items = items_begin g.R.Read g.W.Write _ c.args.nest.now.header c.args.nest.now.mark _ _ c.behind-remaining.ensures;
   moves_on = MovesOn-none g.R.Read c.args.decoder.now;
 }
 
@@ -77,7 +77,7 @@ show_within-returns-in-Break-clause-reads g t c =
     let pulled = rw (c.offset-place.ensures.same, c.in-Break.is) at c.in_ok-next.ensures.pulls.pulled in
     let so_far = c.items.invariant.so_far in
     break_said (closes c.items.remaining)
-    (λ answer. SkipsWithin g.R.Read c.args.nest.header c.args.depth 64 c.args.decoder.now answer c.pull_marked.new.decoder)
+    (λ answer. SkipsWithin g.R.Read c.args.nest.now.header c.args.depth 64 c.args.decoder.now answer c.pull_marked.new.decoder)
     c.at_break.result c.items.is_first c.offset-place.result c.at_break.ensures
     (λ may. closed g.R.Read so_far may pulled (rw c.offset-place.ensures.same at c.in_ok-next.ensures.moves_on.steady))
     (λ may. stops_within g.R.Read so_far (sym c.items-test.ensures) refl
@@ -94,7 +94,7 @@ show_within-returns-in_err-show_item-clause-reads g t c =
     let outer = closes c.items.remaining in
     rw (exit_is _ _ c.from_residual-in_err-show_item.ensures.1) (reading_stops (Unit {0}) Bool
     (λ answer. ReadsFrom g.R.Read outer c.args.depth 64 c.items.decoder answer new)
-    (λ answer. SkipsWithin g.R.Read c.args.nest.header c.args.depth 64 c.args.decoder.now answer new) _
+    (λ answer. SkipsWithin g.R.Read c.args.nest.now.header c.args.depth 64 c.args.decoder.now answer new) _
     (λ stop stops. stops_within g.R.Read c.items.invariant.so_far (sym c.items-test.ensures) refl stops)
     (c.in_err-show_item.ensures.reads c.items.decoder outer c.offset-place.ensures.value
     (rw c.offset-place.ensures.same at c.in_ok-next.ensures.pulls.pulled)
@@ -109,9 +109,9 @@ show_within-items-preserved g t c =
     let led = said_wrote g.W.Write c.before-in-items.result c.said.ensures.same c.in_ok-said.was
     c.before-in-items.ensures in
     record {
-      so_far = one_more g.R.Read c.items.invariant.so_far (c.after_item-remaining.ensures c.args.nest.header) item;
+      so_far = one_more g.R.Read c.items.invariant.so_far (c.after_item-remaining.ensures c.args.nest.now.header) item;
       items = items_more c.items.invariant.items c.is_value.ensures pulled led
-          (c.after_item-remaining.ensures c.args.nest.header) first.steady (rw (marked.mark, c.items.auto.memory) at c.in_ok-show_item.ensures.shown);
+          (c.after_item-remaining.ensures c.args.nest.now.header) first.steady (rw (marked.mark, c.items.auto.memory) at c.in_ok-show_item.ensures.shown);
       moves_on = MovesOn-then g.R.Read _ _ _ c.items.invariant.moves_on
           (MovesOn-then g.R.Read _ _ _ first c.show_item.ensures.moves_on);
     }
@@ -135,7 +135,7 @@ show_within-returns-in_err-show_item-clause-moves_on g t c =
 pub show_within-returns-in_err-said-clause-reads : goal.show_within-returns-in_err-said-clause-reads
 show_within-returns-in_err-said-clause-reads g t c =
     rw (exit_is _ _ c.from_residual-in_err-said.ensures.1) (reading_unread Bool (λ answer. SkipsWithin g.R.Read
-    c.args.nest.header c.args.depth 64 c.args.decoder.now answer c.pull_marked.new.decoder) _ c.in_err-said.ensures.writing)
+    c.args.nest.now.header c.args.depth 64 c.args.decoder.now answer c.pull_marked.new.decoder) _ c.in_err-said.ensures.writing)
 
 pub show_within-returns-clause-moves_on : goal.show_within-returns-clause-moves_on
 show_within-returns-clause-moves_on g t c = c.items.invariant.moves_on
@@ -159,13 +159,13 @@ show_item-returns-in_err-said-in-Tag-clause-shown g t c =
 
 pub show_item-returns-in_err-is_empty-in-Tag-clause-shown : goal.show_item-returns-in_err-is_empty-in-Tag-clause-shown
 show_item-returns-in_err-is_empty-in-Tag-clause-shown g t c =
-    rw (exit_is _ _ c.from_residual-in_err-is_empty-in-Tag.ensures.1) (within_stops _ _ (within_place c.args.marked.header c.args.line
+    rw (exit_is _ _ c.from_residual-in_err-is_empty-in-Tag.ensures.1) (within_stops _ _ (within_place c.args.marked.header c.args.line.now
     c.within-inner.result g.B.Bodies.strings c.args.depth (length c.args.memory.now) c.within-inner.ensures) (said_wrote g.W.Write c.open.result c.said.ensures.same c.in_ok-said-in-Tag.was
     c.open.ensures) c.in_err-is_empty-in-Tag.ensures.shown)
 
 pub show_item-returns-in_ok-is_empty-in-Tag-clause-shown : goal.show_item-returns-in_ok-is_empty-in-Tag-clause-shown
 show_item-returns-in_ok-is_empty-in-Tag-clause-shown g t c =
-    nest_shown _ _ (within_place c.args.marked.header c.args.line c.within-inner.result g.B.Bodies.strings c.args.depth
+    nest_shown _ _ (within_place c.args.marked.header c.args.line.now c.within-inner.result g.B.Bodies.strings c.args.depth
     (length c.args.memory.now) c.within-inner.ensures) (said_wrote g.W.Write c.open.result c.said.ensures.same c.in_ok-said-in-Tag.was c.open.ensures) _ c.close.result
     c.said-in-Tag.result c.in_ok-is_empty-in-Tag.ensures.shown c.said-in-Tag.ensures.same c.close.ensures
 

@@ -12,7 +12,7 @@ returns-in-Map g c =
 
 pub returns-in_err-behind : goal.returns-in_err-behind
 returns-in_err-behind g c =
-    WritesBytes-stopped g.W.Write _ _ c.from_residual.result _ (nest_closing c.args.nest.header) c.from_residual.ensures.0
+    WritesBytes-stopped g.W.Write _ _ c.from_residual.result _ (nest_closing c.args.nest.now.header) c.from_residual.ensures.0
     c.in_err-behind.ensures
 
 pub returns-in-Tag : goal.returns-in-Tag

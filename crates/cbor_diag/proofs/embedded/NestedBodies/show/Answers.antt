@@ -23,7 +23,7 @@ pub returns-in_err-show_embedded : goal.returns-in_err-show_embedded
 returns-in_err-show_embedded g c = λ held.
     let item : IsTrue c.is_one_item.result = grind (arith, c.if-not-is_one_item.false) in
     rw (exit_is _ _ c.from_residual-in_err-show_embedded.ensures.1) (embedded_stops g.W.Write _ _ c.args.mark
-    c.args.body.now _ _ _ _ (held, c.is_one_item.ensures.0 item) c.in_ok-put.ensures (inside_place c.args.line
+    c.args.body.now _ _ _ _ (held, c.is_one_item.ensures.0 item) c.in_ok-put.ensures (inside_place c.args.line.now
     c.inside.result g.B.Bodies.strings c.args.depth (length c.args.body.now) (length c.args.memory.now) c.inside.ensures)
     c.in_err-show_embedded.ensures)
 
@@ -31,7 +31,7 @@ pub returns : goal.returns
 returns g c = λ held.
     let item : IsTrue c.is_one_item.result = grind (arith, c.if-not-is_one_item.false) in
     let shown = c.in_ok-show_embedded.ensures in
-    let place = inside_place c.args.line c.inside.result g.B.Bodies.strings c.args.depth (length c.args.body.now)
+    let place = inside_place c.args.line.now c.inside.result g.B.Bodies.strings c.args.depth (length c.args.body.now)
     (length c.args.memory.now) c.inside.ensures in
     embedded_kept g.W.Write _ _ c.args.mark c.args.body.now _ _ c.put_marked.result shown.0
     (held, c.is_one_item.ensures.0 item)

@@ -6,7 +6,7 @@ use Rattle.cbor_diag.proofs.layout.Line.begin.Goals as goal
 
 pub returns-in_err-put-2 : goal.returns-in_err-put-2
 returns-in_err-put-2 g c =
-    line_stops c.levels._level c.levels.invariant c.args.self.level _ c.from_residual-in_err-put-2.result
+    line_stops c.levels._level c.levels.invariant c.args.self.now.level _ c.from_residual-in_err-put-2.result
     c.levels-test.true c.from_residual-in_err-put-2.ensures.0 c.in_err-put-2.ensures
 
 pub levels-preserved : goal.levels-preserved
@@ -14,7 +14,7 @@ levels-preserved g c = line_more c.levels._level c.levels.invariant c.in_ok-put-
 
 pub returns-in_err-put : goal.returns-in_err-put
 returns-in_err-put g c =
-    WritesBytes-stopped g.W.Write _ _ c.from_residual.result (codes "\n") (indent c.args.self.level)
+    WritesBytes-stopped g.W.Write _ _ c.from_residual.result (codes "\n") (indent c.args.self.now.level)
     c.from_residual.ensures.0 c.in_err-put.ensures
 
 pub levels-init : goal.levels-init
@@ -22,5 +22,5 @@ levels-init g c = c.in_ok-put.ensures
 
 pub returns : goal.returns
 returns g c =
-    let all : c.levels._level ≡ c.args.self.level = omega (arith, c.levels-test.false, c.levels.auto._level-end) in
+    let all : c.levels._level ≡ c.args.self.now.level = omega (arith, c.levels-test.false, c.levels.auto._level-end) in
     rw all at c.levels.invariant

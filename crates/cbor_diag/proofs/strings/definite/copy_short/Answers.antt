@@ -1,7 +1,7 @@
 use Rattle.std.proofs.Common.{◌<◌, arith, length, rules}
 use Rattle.ciborium_ll.specs.Types.RecodeError.TheVariants as r
 use Rattle.ciborium_ll.proofs.DecodingLaws.{exit_is}
-use Rattle.cbor_diag.proofs.BodyShowLaws.{plain_whole, short_damaged, short_refused, short_shown, short_stops, short_unshown}
+use Rattle.cbor_diag.proofs.BodyShowLaws.{unescaped_whole, short_damaged, short_refused, short_shown, short_stops, short_unshown}
 use Rattle.cbor_diag.proofs.strings.definite.copy_short.Goals as goal
 
 pub returns-in_err-read_short-clause-copied : goal.returns-in_err-read_short-clause-copied
@@ -24,22 +24,22 @@ returns-then-rest-gt-MOST_KEPT-clause-copied g c =
 pub returns-in-Err-clause-copied : goal.returns-in-Err-clause-copied
 returns-in-Err-clause-copied g c =
     let bytes = c.read_short.new.bytes in
-    let plain = plain_whole g.P.Parser.kind c.args.quotes bytes c.requires.kind (search rules)
+    let whole = unescaped_whole g.P.Parser.kind c.args.quotes bytes c.requires.kind (search rules)
     (c.are_unescaped.ensures.0 c.if-are_unescaped.true) in
     short_unshown g.R.Read g.W.Write g.P.Parser.kind c.args.quotes c.args.body.length 64 c.args.body.place
     c.args.decoder.now c.read_short.new.decoder c.args.writer.now c.requires.kind bytes bytes c.put.new.writer
-    c.in_ok-read_short.ensures.reads.0 c.in_ok-read_short.ensures.reads.1 plain.0 c.in-Err.fault (omega arith)
-    (rw plain.1 c.in-Err.ensures)
+    c.in_ok-read_short.ensures.reads.0 c.in_ok-read_short.ensures.reads.1 whole.0 c.in-Err.fault (omega arith)
+    (rw whole.1 c.in-Err.ensures)
 
 pub returns-in-Ok-clause-copied : goal.returns-in-Ok-clause-copied
 returns-in-Ok-clause-copied g c =
     let bytes = c.read_short.new.bytes in
-    let plain = plain_whole g.P.Parser.kind c.args.quotes bytes c.requires.kind (search rules)
+    let whole = unescaped_whole g.P.Parser.kind c.args.quotes bytes c.requires.kind (search rules)
     (c.are_unescaped.ensures.0 c.if-are_unescaped.true) in
     short_shown g.R.Read g.W.Write g.P.Parser.kind c.args.quotes c.args.body.length 64 c.args.body.place
     c.args.decoder.now c.read_short.new.decoder c.args.writer.now c.requires.kind bytes bytes c.put.new.writer
-    c.in_ok-read_short.ensures.reads.0 c.in_ok-read_short.ensures.reads.1 plain.0 (omega arith)
-    (rw plain.1 c.in-Ok.ensures)
+    c.in_ok-read_short.ensures.reads.0 c.in_ok-read_short.ensures.reads.1 whole.0 (omega arith)
+    (rw whole.1 c.in-Ok.ensures)
 
 pub returns-in-Err-show_quoted-clause-copied : goal.returns-in-Err-show_quoted-clause-copied
 returns-in-Err-show_quoted-clause-copied g c =
