@@ -1,11 +1,11 @@
 //! Lines that are written many at a time.
 
-ghost use Rattle.std.specs.Prelude.{◌≡◌, ◌≤◌, ◌∷◌, [], IsOk, OnOk};
+ghost use Rattle.std.specs.Prelude.{◌≡◌, ◌<◌, ◌≤◌, ◌∷◌, ◌⊎◌, [], IfSome, IsErr, IsOk, IsSome, MatchOption, None, OnErr};
+ghost use Rattle.std.specs.Prelude.{OnOk, Some};
 ghost use Rattle.std.specs.Io.KnownBytes.{Appends, Keeps};
-ghost use Rattle.tool_files.specs.declared.lines.TheConstants.{LINE_FEED, MOST};
+ghost use Rattle.tool_files.specs.declared.lines.TheConstants.{AT_ONCE, LINE_FEED, MOST};
 
 use ciborium_ll::io::FaultKept;
-use std::fmt::Write;
 use std::{fmt, io};
 
 /// How many bytes of lines are written at once.
@@ -51,18 +51,22 @@ impl<W: io::Write> Lines<W> {
         }
     }
 
-    /// Ends a line whose text was added with this outcome.
+    /// Ends a line whose text was added with this outcome. Only whole lines wait then, of fewer than [`AT_ONCE`] bytes.
     ///
     /// # Errors
     ///
     /// The text was not added, or there is a fault.
     pub(crate) fn end_line(&mut self, added: fmt::Result) -> Result<(), FaultKept>
-        ensures { OnOk result
+        ensures text { OnOk result
             (Appends (lines_text W.contents self.old) (lines_text W.contents self.new) (LINE_FEED ∷ [])) }
+        ensures whole { OnOk result (self.new.whole ≡ self.new.len) }
+        ensures few { OnOk result (self.new.len < AT_ONCE) }
+        ensures fault { OnErr result (IsErr added ⊎ IsSome self.new.fault) }
     {
-        if added.is_err() || self.write_str("\n").is_err() {
+        if added.is_err() {
             return Err(FaultKept);
         }
+        self.add(&[LINE_FEED])?;
         self.whole = self.len;
         if self.whole < AT_ONCE {
             return Ok(());
@@ -70,13 +74,15 @@ impl<W: io::Write> Lines<W> {
         self.send(self.whole)
     }
 
-    /// Writes the whole lines, and flushes the writer.
+    /// Writes the whole lines, and flushes the writer. If only whole lines waited, nothing waits then.
     ///
     /// # Errors
     ///
     /// There is a fault.
     pub(crate) fn finish(&mut self) -> Result<(), FaultKept>
-        ensures { OnOk result (Keeps (lines_text W.contents self.old) (lines_text W.contents self.new)) }
+        ensures text { OnOk result (Keeps (lines_text W.contents self.old) (lines_text W.contents self.new)) }
+        ensures all { self.old.whole ≡ self.old.len → OnOk result (self.new.len ≡ 0) }
+        ensures fault { OnErr result (IsSome self.new.fault) }
     {
         self.send(self.whole)?;
         let flushed = self.writer.flush();
@@ -87,24 +93,46 @@ impl<W: io::Write> Lines<W> {
     pub(crate) fn keep(&mut self, fault: io::Error)
         ensures text { lines_text W.contents self.new ≡ lines_text W.contents self.old }
         ensures len { self.new.len ≡ self.old.len }
+        ensures whole { self.new.whole ≡ self.old.whole }
+        ensures first { MatchOption self.old.fault (self.new.fault ≡ Some fault) (λ _. self.new.fault ≡ self.old.fault) }
     {
         if self.fault.is_none() {
             self.fault = Some(fault);
         }
     }
 
-    /// Takes the fault.
+    /// Takes the fault. If there is none, the error says only that.
     pub(crate) fn take_fault(&mut self) -> io::Error
-        ensures { lines_text W.contents self.new ≡ lines_text W.contents self.old }
+        ensures text { lines_text W.contents self.new ≡ lines_text W.contents self.old }
+        ensures taken { IfSome self.old.fault (λ fault. result ≡ fault) }
+        ensures none { self.new.fault ≡ None }
     {
         let fault = self.fault.take();
         fault.unwrap_or(io::Error::from(io::ErrorKind::Other))
+    }
+
+    /// Adds a part of a line.
+    #[inline(always)]
+    fn add(&mut self, part: &[u8]) -> Result<(), FaultKept>
+        ensures text { OnOk result
+            (Appends (lines_text W.contents self.old) (lines_text W.contents self.new) part.now) }
+        ensures fault { OnErr result (IsSome self.new.fault) }
+    {
+        if part.len() > MOST - self.len {
+            return self.write_on(part);
+        }
+        let end = self.len + part.len();
+        self.bytes[self.len..end].copy_from_slice(part);
+        self.len = end;
+        Ok(())
     }
 
     /// Writes this many of the bytes that wait. The others wait on.
     fn send(&mut self, count: usize) -> Result<(), FaultKept>
         ensures keeps { OnOk result (Keeps (lines_text W.contents self.old) (lines_text W.contents self.new)) }
         ensures all { self.old.len ≤ count → OnOk result (self.new.len ≡ 0) }
+        ensures none { OnOk result (self.new.whole ≡ 0) }
+        ensures fault { OnErr result (IsSome self.new.fault) }
     {
         if self.fault.is_some() {
             return Err(FaultKept);
@@ -121,7 +149,9 @@ impl<W: io::Write> Lines<W> {
     #[cold]
     #[inline(never)]
     fn write_on(&mut self, part: &[u8]) -> Result<(), FaultKept>
-        ensures { OnOk result (Appends (lines_text W.contents self.old) (lines_text W.contents self.new) part.now) }
+        ensures text { OnOk result
+            (Appends (lines_text W.contents self.old) (lines_text W.contents self.new) part.now) }
+        ensures fault { OnErr result (IsSome self.new.fault) }
     {
         self.send(self.len)?;
         let written = self.writer.write_all(part);
@@ -132,7 +162,9 @@ impl<W: io::Write> Lines<W> {
     fn noted(&mut self, outcome: io::Result<()>) -> Result<(), FaultKept>
         ensures text { lines_text W.contents self.new ≡ lines_text W.contents self.old }
         ensures len { self.new.len ≡ self.old.len }
+        ensures whole { self.new.whole ≡ self.old.whole }
         ensures ok { OnOk result (IsOk outcome) }
+        ensures fault { OnErr result (IsSome self.new.fault) }
     {
         match outcome {
             Ok(()) => Ok(()),
@@ -156,14 +188,7 @@ impl<W: io::Write> fmt::Write for Lines<W> {
     /// There is no room for it, and a fault.
     #[inline(always)]
     fn write_str(&mut self, part: &str) -> fmt::Result {
-        let bytes = part.as_bytes();
-        if bytes.len() > MOST - self.len {
-            return self.write_on(bytes).map_err(|_| fmt::Error);
-        }
-        let end = self.len + bytes.len();
-        self.bytes[self.len..end].copy_from_slice(bytes);
-        self.len = end;
-        Ok(())
+        self.add(part.as_bytes()).map_err(|_| fmt::Error)
     }
 }
 

@@ -2,8 +2,8 @@ use Rattle.std.proofs.Common.{◌≡◌, [], ap, arith, take}
 use Rattle.tool_files.proofs.LineLaws.{part_written}
 use Rattle.tool_files.proofs.lines.Lines.write_on.Goals as goal
 
-pub returns : goal.returns
-returns g c =
+pub returns-clause-text : goal.returns-clause-text
+returns-clause-text g c =
     let lines = c.send.new.self in
     let none : take lines.len lines.bytes ≡ [] = ap (λ n. take n lines.bytes) (c.in_ok-send.ensures.all (omega arith)) in
     part_written c.noted.result c.write_all-written.result (g.W.Write.contents lines.writer)
