@@ -218,7 +218,7 @@ fn write_row<T: Write>(text: &mut T, row: &Row<'_>, offsets: bool) -> fmt::Resul
     if offsets {
         write!(text, "{:6}: ", row.offset)?;
     }
-    text.write(*row)
+    text.write(row)
 }
 
 /// Writes how many bytes of a body were hidden, after as many spaces as a row of them begins with.
