@@ -1,7 +1,8 @@
--- The text of lines that are written many at a time.
+-- The text of lines that are written many at a time, and of a page that passes lines on.
 use Rattle.std.specs.Prelude.{ℕ, List, take}
 use Rattle.std.specs.declared.option.Option.{Option}
 use Rattle.std.specs.Io.KnownBytes.{append_known}
+use Rattle.tool_files.specs.declared.items.Page.{Page}
 use Rattle.tool_files.specs.declared.lines.Lines.{Lines}
 
 module _ {W : Type 0} where
@@ -13,3 +14,7 @@ module _ {W : Type 0} where
   -- that waits are `61 0a 62`.
   abbrev pub lines_text : (W → Option (List ℕ)) → Lines W → Option (List ℕ)
   lines_text contents lines = append_known (contents lines.writer) (lines_waiting lines)
+
+  -- The text of a page that was not passed on: `31 0a`, if `1` and a line feed were kept.
+  abbrev pub page_text : Page W → List ℕ
+  page_text page = take page.len page.bytes

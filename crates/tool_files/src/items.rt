@@ -1,46 +1,159 @@
 //! The words `diag` and `json`.
 
+ghost use Rattle.std.specs.Prelude.{◌≡◌, ◌≤◌, ◌+◌, ◌++◌, [], IsFalse, IsTrue, OnErr, OnOk, length, nat_le};
 ghost use Rattle.tool_files.specs.Shows.{WritesInput};
+ghost use Rattle.tool_files.specs.declared.items.TheConstants.{PART};
 
 use crate::arguments::Options;
 use crate::check::ROOM;
-use crate::shared::{Prompt, Shared};
+use crate::lines::Lines;
+use crate::shared::Prompt;
 use ciborium_ll::Decoder;
-use ciborium_ll::io::{BufferedReader, BufferedWriter, Read, SliceReader, Write, WriteFault};
-use std::cell::RefCell;
+use ciborium_ll::io::{BufferedReader, Failures, FaultKept, Read, SliceReader, Write};
+use std::cell::{RefCell, RefMut};
 use std::io;
 use tool_verdicts::items::{Form, items_verdict, write_part};
 use tool_verdicts::verdict::Verdict;
 
-/// Writes to a writer, and knows whether the last line is open. It flushes only at its end, since the reader flushes
-/// before it reads on.
+/// How many bytes of text are passed on at once.
+const PART: usize = 1024;
+
+/// Writes items. A flush passes their text on as whole lines, which wait until they are many, or until the reader asks
+/// for more.
 #[derive(Drop)]
-struct Page<W> {
-    writer: W,
-    is_open: bool,
+struct Page<'o, W> {
+    /// The text after the last line, or its last part.
+    bytes: [u8; PART],
+    len: usize,
+    /// Whether a part of that text was passed on.
+    is_begun: bool,
+    output: &'o RefCell<Lines<W>>,
+    failures: Failures,
+    ghost within: { len ≤ PART },
 }
 
-impl<W: io::Write> Page<W> {
-    /// Ends the last line if it is open, and flushes the writer.
-    fn end(&mut self) -> io::Result<()> {
-        if self.is_open {
-            self.writer.write_all(b"\n")?;
-        }
-        self.writer.flush()
-    }
-}
+impl<'o, W: io::Write> Page<'o, W> {
+    ghost use Rattle.tool_files.specs.Lines.{page_text};
 
-impl<W: io::Write> io::Write for Page<W> {
-    fn write(&mut self, buf: &[u8]) -> io::Result<usize> {
-        let count = self.writer.write(buf)?;
-        if let Some(last) = buf[..count].last() {
-            self.is_open = *last != b'\n';
+    /// Makes a page without text.
+    fn new(output: &'o RefCell<Lines<W>>) -> Page<'o, W> {
+        Page {
+            bytes: [0; PART],
+            len: 0,
+            is_begun: false,
+            output,
+            failures: Failures::new(),
         }
-        Ok(count)
     }
 
-    fn flush(&mut self) -> io::Result<()> {
+    /// Returns the lines that wait.
+    fn lines(&self) -> Result<RefMut<'o, Lines<W>>, FaultKept> {
+        self.output.try_borrow_mut().map_err(|_| FaultKept)
+    }
+
+    /// Keeps more of the text if there is room for it, and returns whether there is.
+    #[inline(always)]
+    fn keep(&mut self, more: &[u8]) -> bool
+        ensures room { result ≡ nat_le (self.old.len + length more.now) PART }
+        ensures kept { IsTrue result → page_text self.new ≡ page_text self.old ++ more.now }
+        ensures none { IsFalse result → self.new ≡ self.old }
+        ensures failures { self.new.failures.count ≡ self.old.failures.count }
+    {
+        if more.len() > PART - self.len {
+            return false;
+        }
+        let end = self.len + more.len();
+        self.bytes[self.len..end].copy_from_slice(more);
+        self.len = end;
+        true
+    }
+
+    /// Passes the text on, and then more of it.
+    #[cold]
+    #[inline(never)]
+    fn pass_on(&mut self, more: &[u8]) -> Result<(), FaultKept>
+        ensures none { OnOk result (page_text self.new ≡ []) }
+        ensures kept { OnErr result (page_text self.new ≡ page_text self.old) }
+        ensures failures { self.new.failures.count ≡ self.old.failures.count }
+    {
+        let mut lines = self.lines()?;
+        lines.add(&self.bytes[..self.len])?;
+        lines.add(more)?;
+        self.len = 0;
+        self.is_begun = true;
         Ok(())
+    }
+
+    /// Passes the text on as whole lines.
+    fn pass_lines(&mut self) -> Result<(), FaultKept>
+        ensures none { OnOk result (page_text self.new ≡ []) }
+        ensures kept { OnErr result (page_text self.new ≡ page_text self.old) }
+        ensures failures { self.new.failures.count ≡ self.old.failures.count }
+    {
+        self.lines()?.add_lines(&self.bytes[..self.len])?;
+        self.len = 0;
+        self.is_begun = false;
+        Ok(())
+    }
+
+    /// Ends the last line if it has no end, and writes all lines.
+    fn end(&mut self) -> Result<(), FaultKept> {
+        if self.len > 0 || self.is_begun {
+            self.write_all(b"\n")?;
+            self.pass_lines()?;
+        }
+        self.lines()?.finish()
+    }
+
+    /// Takes the fault that the lines keep.
+    fn take_fault(&self) -> io::Error {
+        match self.lines() {
+            Ok(mut lines) => lines.take_fault(),
+            Err(FaultKept) => io::Error::from(io::ErrorKind::Other),
+        }
+    }
+
+    /// Counts a call that failed.
+    fn counted(&mut self, outcome: Result<(), FaultKept>) -> Result<(), FaultKept>
+        ensures same { result ≡ outcome }
+        ensures ok { OnOk result (self.new.failures.count ≡ self.old.failures.count) }
+        ensures err { OnErr result (self.new.failures.count ≡ self.old.failures.count + 1) }
+    {
+        if outcome.is_err() {
+            self.failures.raise();
+        }
+        outcome
+    }
+}
+
+impl<W: io::Write> Write for Page<'_, W> {
+    ghost use Rattle.std.specs.Prelude.{None};
+
+    /// The lines keep the error of the writer.
+    type Error = FaultKept;
+
+    ghost written = { λ _. None };
+
+    ghost room = { λ _. None };
+
+    ghost failures = { λ p. p.failures.count };
+
+    ghost flushed = { λ _ _. Unit {0} };
+
+    ghost target = { λ _. None };
+
+    #[inline(always)]
+    fn write_all(&mut self, data: &[u8]) -> Result<(), FaultKept> {
+        if self.keep(data) {
+            return Ok(());
+        }
+        let outcome = self.pass_on(data);
+        self.counted(outcome)
+    }
+
+    fn flush(&mut self) -> Result<(), FaultKept> {
+        let outcome = self.pass_lines();
+        self.counted(outcome)
     }
 }
 
@@ -89,37 +202,12 @@ fn write_input<R: io::Read + Drop, W: io::Write + Drop>(
     options: Options,
     form: Form,
 ) -> Result<(), Verdict> {
-    let output = RefCell::new(writer);
-    let mut page = Page {
-        writer: Shared::new(&output),
-        is_open: false,
-    };
-    let outcome = write_page(Prompt::new(reader, &output), &mut page, options, form);
-    if let Err(Verdict::Output(_)) = &outcome {
-        return outcome;
-    }
-    match page.end() {
-        Ok(()) => outcome,
-        Err(error) => Err(Verdict::Output(error)),
-    }
-}
-
-/// Writes the items on a page, by few writes.
-fn write_page<R: io::Read + Drop, W: io::Write>(
-    reader: R,
-    page: &mut Page<W>,
-    options: Options,
-    form: Form,
-) -> Result<(), Verdict> {
-    let mut kept = [0; ROOM];
-    let mut writer = BufferedWriter::new(page, &mut kept);
-    let outcome = write_items(reader, &mut writer, options, form);
-    let _ = writer.flush();
-    let (_, _, fault) = writer.into_parts();
-    match fault {
-        Some(WriteFault::Failed(error)) => Err(Verdict::Output(error)),
-        Some(WriteFault::Zero) => Err(Verdict::Output(io::Error::from(io::ErrorKind::WriteZero))),
-        None => outcome.unwrap_or(Ok(())),
+    let output = RefCell::new(Lines::new(writer));
+    let mut page = Page::new(&output);
+    let outcome = write_items(Prompt::new(reader, &output), &mut page, options, form);
+    match (outcome, page.end()) {
+        (Ok(verdict), Ok(())) => verdict,
+        _ => Err(Verdict::Output(page.take_fault())),
     }
 }
 

@@ -51,24 +51,43 @@ impl<W: io::Write> Lines<W> {
         }
     }
 
-    /// Ends a line whose text was added with this outcome. Only whole lines wait then, of fewer than [`AT_ONCE`] bytes.
+    /// Ends a line whose text was added with this outcome, as [`Lines::add_lines`] does.
     ///
     /// # Errors
     ///
     /// The text was not added, or there is a fault.
+    #[inline(always)]
     pub(crate) fn end_line(&mut self, added: fmt::Result) -> Result<(), FaultKept>
         ensures text { OnOk result
             (Appends (lines_text W.contents self.old) (lines_text W.contents self.new) (LINE_FEED ∷ [])) }
         ensures whole { OnOk result (self.new.whole ≡ self.new.len) }
         ensures few { OnOk result (self.new.len < AT_ONCE) }
+        ensures none { OnOk result (self.new.fault ≡ None) }
         ensures fault { OnErr result (IsErr added ⊎ IsSome self.new.fault) }
     {
         if added.is_err() {
             return Err(FaultKept);
         }
-        self.add(&[LINE_FEED])?;
+        self.add_lines(&[LINE_FEED])
+    }
+
+    /// Adds the end of a line, or whole lines. Then only whole lines wait, of fewer than [`AT_ONCE`] bytes.
+    ///
+    /// # Errors
+    ///
+    /// There is a fault.
+    #[inline(always)]
+    pub(crate) fn add_lines(&mut self, lines: &[u8]) -> Result<(), FaultKept>
+        ensures text { OnOk result
+            (Appends (lines_text W.contents self.old) (lines_text W.contents self.new) lines.now) }
+        ensures whole { OnOk result (self.new.whole ≡ self.new.len) }
+        ensures few { OnOk result (self.new.len < AT_ONCE) }
+        ensures none { OnOk result (self.new.fault ≡ None) }
+        ensures fault { OnErr result (IsSome self.new.fault) }
+    {
+        self.add(lines)?;
         self.whole = self.len;
-        if self.whole < AT_ONCE {
+        if self.whole < AT_ONCE && self.fault.is_none() {
             return Ok(());
         }
         self.send(self.whole)
@@ -82,6 +101,7 @@ impl<W: io::Write> Lines<W> {
     pub(crate) fn finish(&mut self) -> Result<(), FaultKept>
         ensures text { OnOk result (Keeps (lines_text W.contents self.old) (lines_text W.contents self.new)) }
         ensures all { self.old.whole ≡ self.old.len → OnOk result (self.new.len ≡ 0) }
+        ensures none { OnOk result (self.new.fault ≡ None) }
         ensures fault { OnErr result (IsSome self.new.fault) }
     {
         self.send(self.whole)?;
@@ -112,8 +132,12 @@ impl<W: io::Write> Lines<W> {
     }
 
     /// Adds a part of a line.
+    ///
+    /// # Errors
+    ///
+    /// There is no room for it, and a fault.
     #[inline(always)]
-    fn add(&mut self, part: &[u8]) -> Result<(), FaultKept>
+    pub(crate) fn add(&mut self, part: &[u8]) -> Result<(), FaultKept>
         ensures text { OnOk result
             (Appends (lines_text W.contents self.old) (lines_text W.contents self.new) part.now) }
         ensures fault { OnErr result (IsSome self.new.fault) }
@@ -131,7 +155,8 @@ impl<W: io::Write> Lines<W> {
     fn send(&mut self, count: usize) -> Result<(), FaultKept>
         ensures keeps { OnOk result (Keeps (lines_text W.contents self.old) (lines_text W.contents self.new)) }
         ensures all { self.old.len ≤ count → OnOk result (self.new.len ≡ 0) }
-        ensures none { OnOk result (self.new.whole ≡ 0) }
+        ensures whole { OnOk result (self.new.whole ≡ 0) }
+        ensures none { OnOk result (self.new.fault ≡ None) }
         ensures fault { OnErr result (IsSome self.new.fault) }
     {
         if self.fault.is_some() {
@@ -164,6 +189,7 @@ impl<W: io::Write> Lines<W> {
         ensures len { self.new.len ≡ self.old.len }
         ensures whole { self.new.whole ≡ self.old.whole }
         ensures ok { OnOk result (IsOk outcome) }
+        ensures kept { OnOk result (self.new.fault ≡ self.old.fault) }
         ensures fault { OnErr result (IsSome self.new.fault) }
     {
         match outcome {
@@ -201,10 +227,11 @@ impl<W: io::Write> io::Write for Lines<W> {
         }
     }
 
-    /// Writes the whole lines, and flushes the writer. The lines keep a fault, and the error says only that there is one.
+    /// Writes the whole lines, and flushes the writer. The lines keep the fault of a write, and the error says only that
+    /// there is one. They do not keep that of the flush, which comes again at the end.
     fn flush(&mut self) -> io::Result<()> {
-        match self.finish() {
-            Ok(()) => Ok(()),
+        match self.send(self.whole) {
+            Ok(()) => self.writer.flush(),
             Err(FaultKept) => Err(io::Error::from(io::ErrorKind::Other)),
         }
     }

@@ -343,10 +343,7 @@ fn write_view<R: io::Read + Drop>(
     view: View,
     options: Options,
 ) -> Result<(), Verdict> {
-    let writer = match BufWriter::new(rt.alloc(), io::writer(rt)) {
-        Ok(writer) => writer,
-        Err(error) => return Err(Verdict::Output(error)),
-    };
+    let writer = io::writer(rt);
     let mut input = Input::new(reader, options);
     let outcome = match view {
         View::Notation => diag_input(&mut input, writer, options),
