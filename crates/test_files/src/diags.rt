@@ -122,3 +122,14 @@ fn a_flush_that_fails(rt: HostRuntime) {
     let is_written = writer.taken.as_slice() == b"[1000, \"a\"]\n".as_slice();
     holds_at(&rt, is_failed && is_written, "flush", 1);
 }
+
+// The reader gives an item a call. The first write fails before the second read, so the line of the second item tells
+// the fault.
+#[test]
+fn a_failed_write_ends_the_reads(rt: HostRuntime) {
+    let mut reader = PartReader::new(&[0; 100], 1);
+    let writer = PartWriter::new(rt.alloc(), 1).failing_at(1, Some(io::ErrorKind::BrokenPipe));
+    let outcome = diag_input(&mut reader, writer, Options::new());
+    let is_failed = matches!(outcome, Err(Verdict::Output(_)));
+    holds_at(&rt, is_failed && reader.calls == 2, "reads", reader.calls);
+}

@@ -512,3 +512,14 @@ fn calls_that_fail(rt: HostRuntime) {
         holds_at(&rt, is_failed_write(rt.alloc(), call), "write", call);
     }
 }
+
+// The reader gives an item a call. The first write fails before the second read, so the line of the second item tells
+// the fault.
+#[test]
+fn a_failed_write_ends_the_reads(rt: HostRuntime) {
+    let mut reader = PartReader::new(&[0; 100], 1);
+    let writer = PartWriter::new(rt.alloc(), 1).failing_at(1, Some(io::ErrorKind::BrokenPipe));
+    let outcome = dump_input(rt.alloc(), &mut reader, writer, Options::new(), false);
+    let is_failed = matches!(outcome, Err(Verdict::Output(_)));
+    holds_at(&rt, is_failed && reader.calls == 2, "reads", reader.calls);
+}
