@@ -103,12 +103,6 @@ module _ (t : List ℕ) (x : Header) (p : IsTitle t x) where
       (grows_opened k n m at end (end + long) long count l c g refl) r in
       omega (arith, f, whole)
 
-  pub lacks_within : (n at room held places : ℕ) (stop : Stop) → held ≤ 1 + n → LacksRoom n at room held places stop
-      → LacksRoom (length t + n) at room (length t + n) places stop
-  lacks_within n at room held places stop l f is r q =
-      let some = title_some t x p in
-      f is (omega (arith, r)) (fewer_places (length t + n) held places (omega (arith, l, some)) q)
-
   -- ---- strings
 
   -- A string of the length in its title.
@@ -118,12 +112,6 @@ module _ (t : List ℕ) (x : Header) (p : IsTitle t x) where
       let least = shortest_no_longer t x p in
       let some = title_some t x p in
       record { read = omega (arith, some, b); wrote = omega (arith, least, some, b, e) }
-
-  pub lacks_told : (n m at room all places body : ℕ) (stop : Stop) → n ≡ body + m → room < at + (title_len x + body)
-      → LacksRoom (length t + n) at room all places stop
-  lacks_told n m at room all places body stop b l =
-      lacks_bytes (length t + n) at room all places (title_len x + body) stop l
-      (omega (arith, shortest_no_longer t x p, b))
 
   -- A string without a length, whose bodies stand from one offset to another.
   pub grows_gathered : (n m at end after long : ℕ) → 256 * long ≤ 512 + (end - at) → at ≤ end → end + m < at + n

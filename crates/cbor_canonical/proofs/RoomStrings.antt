@@ -6,11 +6,10 @@ use Rattle.ciborium_ll_grammar.specs.Strings.{Kind, Bytes, Text, kind_header}
 use Rattle.ciborium_ll_grammar.specs.Elements.{body_spelling}
 use Rattle.ciborium_ll_grammar.proofs.AloneLaws.{title_some}
 use Rattle.cbor_deterministic.specs.Fronts.{InFront}
-use Rattle.cbor_canonical.specs.declared.Stop.{Stop}
-use Rattle.cbor_canonical.specs.Room.{Grows, LacksRoom}
+use Rattle.cbor_canonical.specs.Room.{Grows}
 use Rattle.cbor_canonical.specs.Strings.{IsBody, IsChunk}
 use Rattle.cbor_canonical.specs.Writing.{Adds}
-use Rattle.cbor_canonical.proofs.RoomRuns.{title_grows, grows_told, lacks_told}
+use Rattle.cbor_canonical.proofs.RoomRuns.{title_grows, grows_told}
 use Rattle.cbor_canonical.proofs.WriteRuns.{adds_reach}
 
 -- The title of a string's length takes at most a byte more than two for 256 bytes of its body.
@@ -49,9 +48,3 @@ module _ (k : Kind) (len : ℕ) (bytes body rest : List ℕ) (b : IsBody k len b
   told_grows at end old new l w =
       grows_told t _ p (length bytes) (length rest) at end (length body) told_whole
       (adds_reach (body_spelling k body) at end old new l w ∙ ap (λ (n : ℕ). at + n) told_length)
-
-  pub told_lacks : (at room all places : ℕ) (stop : Stop) → room < at + length (body_spelling k body)
-      → LacksRoom (length t + length bytes) at room all places stop
-  told_lacks at room all places stop l =
-      lacks_told t _ p (length bytes) (length rest) at room all places (length body) stop told_whole
-      (omega (arith, l, told_length))

@@ -230,21 +230,6 @@ gathering_start k bytes old = record {
 
 module _ (k : Kind) (bytes rest after old now : List ℕ) (opens due left : ℕ)
     (g : Gathering k bytes rest old now opens due) where
-  pub gathered : opens ≡ 0 → rest ≡ 0xff ∷ after → Gathers k bytes after old now
-  gathered e z = go opens g.read g.bodies g.inside e g.writable g.whole g.wrote
-    where
-      go : (n : ℕ) (s : List ℕ) (bs : List (List ℕ)) → Inside k n s bs → n ≡ 0 → AreWritable k bs
-          → bytes ≡ s ++ rest → now ≡ old ++ joined bs → Gathers k bytes after old now
-      go n s bs (outermost q) e a w u = record {
-        strings = s;
-        bodies = bs;
-        are = q;
-        writable = a;
-        whole = w ∙ ap (λ (v : List ℕ). s ++ v) z;
-        wrote = u;
-      }
-      go n s bs (deeper j p q) e a w u = absurd (omega arith)
-
   pub gathering_closed : (n : ℕ) → opens ≡ suc n → left + 1 ≡ due → rest ≡ 0xff ∷ after
       → Gathering k bytes after old now n left
   gathering_closed n e l z = record {

@@ -145,10 +145,6 @@ pub begun : (kind : StringKind) (xs : List ℕ) → BeginsPiece kind xs → Begu
 begun kind xs begins =
     rw begins.is (begun_of kind begins.first begins.body begins.rest begins.title begins.whole)
 
--- No bytes begin with no piece.
-pub none_begun : (kind : StringKind) → BeginsPiece kind [] → ⊥
-none_begun kind begins = absurd (omega (arith, ap (length {A = ℕ}) begins.is))
-
 -- ---- pieces one after another
 
 -- One more piece follows the pieces before.

@@ -224,9 +224,6 @@ abbrev pub StandAlone : List ℕ → Type 0
 StandAlone bytes =
     (passed_text q.Text h.Nothing bytes ≡ bytes) × (passed_held q.Text h.Nothing bytes ≡ h.Nothing)
 
-pub none_stand : StandAlone []
-none_stand = (refl, refl)
-
 -- One more byte that stands for itself follows the others.
 pub stand_more : (bytes : List ℕ) (byte : ℕ) → StandAlone bytes → byte_notation byte ≡ byte ∷ []
     → is_lead byte ≡ false → StandAlone (bytes ++ byte ∷ [])

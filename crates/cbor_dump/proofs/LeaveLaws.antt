@@ -35,10 +35,6 @@ module _ {R E : Type 0} (source : Ghosts R E) where
   stops_then e.TooLong old between new first second = refused_then old between new first second
   stops_then e.Waiting old between new first second = refused_then old between new first second
 
-  pub by_then : {T : Type 0} (result : Result T (Error E)) (old between new : Decoder R) → ReadsOn source old between
-      → ReadsBy source result between new → ReadsBy source result old new
-  by_then result old between new first second = grind (arith, reads_then, stops_then)
-
   -- One read leaves the decoder as its answer says.
   one_read : (result : Result (Unit {0}) (Error E)) (bytes : List ℕ) (old new : Decoder R)
       → Reads source old result bytes new → ReadsBy source result old new
