@@ -10,7 +10,7 @@ ghost use Rattle.capi.specs.Pulling.{CllPull};
 use crate::header::CllHeader;
 use ciborium_ll_grammar::hdr::table::{TitleKind, row_of, title_lens};
 use ciborium_ll_grammar::limits::LONGEST_TITLE;
-use ciborium_ll_grammar::titles::affix_number;
+use ciborium_ll_grammar::titles::title_number;
 
 /// The least first byte of the major type 7.
 const OTHERS: u8 = 0xe0;
@@ -45,12 +45,7 @@ fn number_of(first: u8, word: u64) -> u64
     requires { first % 32 ≤ 27 }
     ensures { result ≡ number_in (first % 32) word }
 {
-    let affix = affix_number(first, word);
-    if first % 32 < 24 {
-        u64::from(first % 32)
-    } else {
-        affix
-    }
+    title_number(first, word)
 }
 
 /// Gives the parts of the header of a title that has no number, and returns the length of the title. `None` means that

@@ -1,6 +1,6 @@
 -- Elements that a copy keeps as they are.
 use Rattle.std.specs.Prelude.{◌≡◌, ◌≢◌, ℕ, suc, ◌+◌, ◌-◌, ◌/◌, ◌%◌, ◌<◌, ◌≤◌, ◌⊎◌, List, [], ◌∷◌, ◌++◌, length}
-use Rattle.std.specs.Prelude.{Some, slice_index, ◌^◌}
+use Rattle.std.specs.Prelude.{Some, slice_index}
 use Rattle.ciborium_ll_grammar.specs.Title.{IsTitle, affix_len}
 use Rattle.ciborium_ll_grammar.specs.declared.hdr.Header.{Header}
 use Rattle.ciborium_ll_grammar.specs.declared.hdr.Header.TheVariants as h
@@ -84,16 +84,6 @@ IsLen first len =
     ⊎ ((len ≡ 1 + first % 32) × (first % 32 < 24) × ((first / 32 ≡ 2) ⊎ (first / 32 ≡ 3))
     ⊎ (len ≡ 1 + affix_len (first % 32)) × (24 ≤ first % 32) × (first % 32 < 28) × (first / 32 ≢ 2)
     × (first / 32 ≢ 3)))
-
--- No title of this width with a lower number is the shortest of its header (RFC 7049, 3.9): 24 after `18`, and 32 after
--- `f8`. It is 0 for a title of one byte, and for a float.
-pub record IsLeast (first least : ℕ) : Type 0 where
-  pub small : first % 32 < 24 → least ≡ 0
-  pub one : first % 32 ≡ 24 → 24 ≤ least
-  pub simple : first % 32 ≡ 24 → 0xe0 ≤ first → 32 ≤ least
-  pub two : first % 32 ≡ 25 → first < 0xe0 → 2 ^ 8 ≤ least
-  pub four : first % 32 ≡ 26 → first < 0xe0 → 2 ^ 16 ≤ least
-  pub eight : first % 32 ≡ 27 → first < 0xe0 → 2 ^ 32 ≤ least
 
 -- After this first byte, the number in these bytes has no shorter title (RFC 7049, 3.9). So it is for `18` before
 -- `18`, and not before `17`. A float has only one title, and a simple value in two bytes is at least 32.

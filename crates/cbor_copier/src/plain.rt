@@ -5,10 +5,10 @@ ghost use Rattle.std.specs.Prelude.{◌≢◌, false, true};
 ghost use Rattle.ciborium_ll_grammar.specs.Elements.{IsStrictRun, Mark};
 ghost use Rattle.ciborium_ll_text.specs.Text.{IsCharacters};
 ghost use Rattle.ciborium_ll_grammar.specs.Title.{affix_len};
-ghost use Rattle.cbor_copier.specs.Plain.{AreKept, BeginsLonger, IsKept, IsLeast, IsLen, StaysShort};
+ghost use Rattle.cbor_copier.specs.Plain.{AreKept, BeginsLonger, IsKept, IsLen, StaysShort};
 
 use ciborium_ll_grammar::limits::LONGEST_TITLE;
-use ciborium_ll_grammar::titles::affix_number;
+use ciborium_ll_grammar::titles::{affix_number, least_of};
 use ciborium_ll_text::state::State;
 
 /// The length of an element in bytes, title included, by its first byte, with two lines for each major type. It is 0 for
@@ -112,44 +112,6 @@ fn is_shortest_alone(bytes: &[u8]) -> bool
         27 => stays_in_eight(first, bytes[1], bytes[2], bytes[3], bytes[4]),
         _ => true,
     }
-}
-
-/// The least number in a title of this width that is the shortest of its header, by its first byte, with two lines for
-/// each major type (RFC 7049, 3.9).
-#[rattlefmt::skip]
-const LEASTS: [u64; 256] = [
-    // unsigned integers
-    0, 0, 0, 0, 0, 0, 0, 0, 0, 0, 0, 0, 0, 0, 0, 0,
-    0, 0, 0, 0, 0, 0, 0, 0, 0x18, 0x100, 0x1_0000, 0x1_0000_0000, 0, 0, 0, 0,
-    // negative integers
-    0, 0, 0, 0, 0, 0, 0, 0, 0, 0, 0, 0, 0, 0, 0, 0,
-    0, 0, 0, 0, 0, 0, 0, 0, 0x18, 0x100, 0x1_0000, 0x1_0000_0000, 0, 0, 0, 0,
-    // byte strings
-    0, 0, 0, 0, 0, 0, 0, 0, 0, 0, 0, 0, 0, 0, 0, 0,
-    0, 0, 0, 0, 0, 0, 0, 0, 0x18, 0x100, 0x1_0000, 0x1_0000_0000, 0, 0, 0, 0,
-    // text strings
-    0, 0, 0, 0, 0, 0, 0, 0, 0, 0, 0, 0, 0, 0, 0, 0,
-    0, 0, 0, 0, 0, 0, 0, 0, 0x18, 0x100, 0x1_0000, 0x1_0000_0000, 0, 0, 0, 0,
-    // arrays
-    0, 0, 0, 0, 0, 0, 0, 0, 0, 0, 0, 0, 0, 0, 0, 0,
-    0, 0, 0, 0, 0, 0, 0, 0, 0x18, 0x100, 0x1_0000, 0x1_0000_0000, 0, 0, 0, 0,
-    // maps
-    0, 0, 0, 0, 0, 0, 0, 0, 0, 0, 0, 0, 0, 0, 0, 0,
-    0, 0, 0, 0, 0, 0, 0, 0, 0x18, 0x100, 0x1_0000, 0x1_0000_0000, 0, 0, 0, 0,
-    // tags
-    0, 0, 0, 0, 0, 0, 0, 0, 0, 0, 0, 0, 0, 0, 0, 0,
-    0, 0, 0, 0, 0, 0, 0, 0, 0x18, 0x100, 0x1_0000, 0x1_0000_0000, 0, 0, 0, 0,
-    // simple values and floats
-    0, 0, 0, 0, 0, 0, 0, 0, 0, 0, 0, 0, 0, 0, 0, 0,
-    0, 0, 0, 0, 0, 0, 0, 0, 0x20, 0, 0, 0, 0, 0, 0, 0,
-];
-
-/// Returns the least number in a title with this first byte that is the shortest of its header (RFC 7049, 3.9).
-#[inline(always)]
-fn least_of(first: u8) -> u64
-    ensures { IsLeast first result }
-{
-    LEASTS[first as usize]
 }
 
 /// Does what [`is_shortest_alone`] does, by the nine bytes from the title on, without a branch by the width.

@@ -125,29 +125,15 @@ module _ {R E : Type 0} (source : Ghosts R E) where
       title_refused old new _ h.0 h.1 read.none_waited (sym read.mode ∙ on)
       (parts_refused _ minor h.0 major is_minor h.1 refused) (whole_read old new _ (rw is read))
 
-  -- The decoder read a title without an affix. No decoder refuses it.
-  byte_pulled : (old new : Decoder R) (first : ℕ) (minor : Minor) (header : Header) (affix : List ℕ) → first < 256
-      → minor_code minor ≡ first % 32 → minor_affix minor ≡ [] → IsMinor minor
-      → refused_when_strict (first / 32) minor ≡ false → affix_len (first % 32) ≡ 0 → IsTitle (first ∷ []) header
-      → ReadsAll source old (first ∷ take (affix_len (first % 32)) affix) new → PullsTitle source old header new
-  byte_pulled old new first minor header affix byte code none is_minor taken no_affix is_title read =
-      let alone : parts_bytes (first / 32) minor ≡ first ∷ [] =
-      rw none (ap (λ (x : ℕ). x ∷ []) (omega (arith, code))) in
-      parts_pulled old new first minor header _ byte is_minor alone (rw alone is_title) (λ on. taken)
-      (rw no_affix at read)
-
-  pub small_pulled : (old new : Decoder R) (first : ℕ) (header : Header) (affix : List ℕ) → first < 256
-      → first % 32 < 24 → IsTitle (first ∷ []) header
-      → ReadsAll source old (first ∷ take (affix_len (first % 32)) affix) new → PullsTitle source old header new
-  small_pulled old new first header affix byte small is_title read =
-      byte_pulled old new first (m.Small (first % 32)) header affix byte refl refl small refl (small_affix _ small)
-      is_title read
-
+  -- The decoder read a title of one byte with the minor 31. No decoder refuses it.
   pub open_pulled : (old new : Decoder R) (first : ℕ) (header : Header) (affix : List ℕ) → first < 256
       → first % 32 ≡ 31 → IsTitle (first ∷ []) header
       → ReadsAll source old (first ∷ take (affix_len (first % 32)) affix) new → PullsTitle source old header new
   open_pulled old new first header affix byte is_open is_title read =
-      byte_pulled old new first m.Open header affix byte (sym is_open) refl tt refl (open_affix _ is_open) is_title read
+      let alone : parts_bytes (first / 32) m.Open ≡ first ∷ [] =
+      ap (λ (x : ℕ). x ∷ []) (omega (arith, is_open)) in
+      parts_pulled old new first m.Open header _ byte tt alone (rw alone is_title) (λ on. refl)
+      (rw (open_affix _ is_open) at read)
 
   -- The byte that was read begins no title, so the decoder refuses it.
   refuses : (old new : Decoder R) (read : List ℕ) → old.waiting ≡ None → length read ≡ 1 → IsRefused (get_or read 0 0)

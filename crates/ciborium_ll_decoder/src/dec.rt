@@ -8,7 +8,7 @@ use ciborium_ll_grammar::hdr::table::{Affix, row_of, title_lens};
 use ciborium_ll_grammar::hdr::{Header, Minor, Title, shortest};
 use ciborium_ll_grammar::limits::LONGEST_TITLE;
 use ciborium_ll_grammar::spelling::Spelling;
-use ciborium_ll_grammar::titles::{affixed_header, affixed_minor, open_title, small_header};
+use ciborium_ll_grammar::titles::{is_longer, numbered_header, numbered_minor, open_title};
 use ciborium_ll_io::io::{Failures, Read};
 
 /// Why a decoder failed.
@@ -69,7 +69,9 @@ impl<R: Read> Decoder<R> {
     ghost use Rattle.std.specs.Prelude.{Err, IfOk, MatchResult, IsErrOf, ◌/◌, ◌&&◌, if◌then◌else◌};
     ghost use Rattle.std.specs.Prelude.{length, take, IfNone, IfSome, ◌∷◌};
     ghost use Rattle.ciborium_ll_grammar.specs.Title.{affix_len, title_len, IsTitle};
-    ghost use Rattle.ciborium_ll_grammar.specs.Parts.{IsParts, refused_when_strict, title_bytes};
+    ghost use Rattle.ciborium_ll_grammar.specs.Parts.{IsMinor, IsParts, minor_code, minor_number, refused_when_strict};
+    ghost use Rattle.ciborium_ll_grammar.specs.Parts.{title_bytes};
+    ghost use Rattle.ciborium_ll_grammar.specs.declared.hdr.Minor.{Minor as AnyMinor};
     ghost use Rattle.ciborium_ll_grammar.specs.Spellings.{is_shortest};
     ghost use Rattle.ciborium_ll_grammar.specs.TitleRows.{IsAffix};
     ghost use Rattle.ciborium_ll_decoder.specs.Decoding.{HoldsAffix, IsFresh, IsFreshAs, IsWaiting, MovesOn};
@@ -211,21 +213,17 @@ impl<R: Read> Decoder<R> {
             title_len header ≤ length (begun.0 ∷ take (affix_len (begun.0 % 32)) begun.1)) }
     {
         let first = begun.0;
-        let affix = begun.1;
-        if first % 32 < 24 {
-            return Ok(small_header(first));
-        }
         if first % 32 > 27 {
             return match open_title(first) {
                 Some(header) => Ok(header),
                 None => Err(Error::Syntax(start)),
             };
         }
-        let (minor, number) = affixed_minor(first, affix);
-        if self.refuses(minor, first) {
+        let (minor, number) = numbered_minor(first, begun.1);
+        if self.refuses_number(first, number) {
             Err(Error::Syntax(start))
         } else {
-            Ok(affixed_header(first, minor, number))
+            Ok(numbered_header(first, minor, number))
         }
     }
 
@@ -394,6 +392,19 @@ impl<R: Read> Decoder<R> {
     {
         let is_strict = self.spelling.is_shortest();
         is_strict && minor.is_refused_when_strict(first / 32)
+    }
+
+    /// Tells if the decoder is strict and refuses a title with this first byte and number. No branch depends on the
+    /// width.
+    #[inline(always)]
+    fn refuses_number(&self, first: u8, number: u64) -> bool
+        ensures { (minor : AnyMinor) → IsMinor minor → minor_code minor ≡ first % 32 → minor_number minor ≡ Some number
+            → result ≡ (is_shortest (spelling_of self.now) && refused_when_strict (first / 32) minor) }
+    {
+        match self.spelling {
+            Spelling::Shortest => is_longer(first, number),
+            Spelling::Any => false,
+        }
     }
 
     /// Reads an affix of `N` bytes. Each affix has its own array here, which is cleared only if the affix is read.

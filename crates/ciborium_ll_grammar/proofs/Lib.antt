@@ -6,6 +6,7 @@ pub mod FrontLaws
 pub mod HaltLaws
 pub mod ItemJoins
 pub mod ItemLaws
+pub mod LeastLaws
 pub mod LongerLaws
 pub mod OpenStrings
 pub mod PartsLaws

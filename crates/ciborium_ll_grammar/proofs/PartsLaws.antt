@@ -1,5 +1,5 @@
 -- The parts that the code reads as a title are a title.
-use Rattle.std.proofs.Common.{◌≡◌, ℕ, ◌+◌, ◌*◌, ◌/◌, ◌%◌, ◌<◌, ◌⊎◌, List, [], ◌∷◌, Option, Some, refl, arith}
+use Rattle.std.proofs.Common.{◌≡◌, ℕ, ◌<◌, ◌⊎◌, List, [], Option, Some, refl, arith}
 use Rattle.ciborium_ll_grammar.specs.declared.hdr.Header.{Header}
 use Rattle.ciborium_ll_grammar.specs.declared.hdr.Header.TheVariants as h
 use Rattle.ciborium_ll_grammar.specs.declared.hdr.Minor.{Minor}
@@ -52,13 +52,6 @@ pub numbered_parts : (code : Major) (major : ℕ) (minor : Minor) (n : ℕ) (hea
     → minor_number minor ≡ Some n → NamesTitle (major_code code) major (minor_code minor)
     → ((size : Size) → numbered_header code size n ≡ header) → IsTitle (parts_bytes major minor) header
 numbered_parts code major minor n header p e named f = rw named.0 (means_title code minor header p (grind arith))
-
--- A byte with a number below 24 in its lower five bits is a title.
-pub small_title : (code : Major) (first number : ℕ) (header : Header) → first % 32 < 24 → first / 32 ≡ major_code code
-    → number ≡ first % 32 → numbered_header code Small number ≡ header → IsTitle (first ∷ []) header
-small_title code first number header small major is means =
-    let byte : 32 * major_code code + number ≡ first = omega (arith, major, is) in
-    rw byte at (rw means at (numbered code Small number (rw is small)))
 
 -- A minor with a number and a major type are parts of a title.
 pub some_named : (minor : Minor) (major n : ℕ) → IsMinor minor → minor_number minor ≡ Some n

@@ -1,6 +1,6 @@
 -- The table's row for each first byte: the kind of its titles, and the place of their number (RFC 7049, 2.1 to 2.3).
 -- `Decoder::pull` looks up first bytes in the 256 rows. The contract of `row_of` says that each row is right.
-use Rattle.std.specs.Prelude.{◌≡◌, ℕ, ◌/◌, ◌%◌, ◌<◌}
+use Rattle.std.specs.Prelude.{◌≡◌, ℕ, ◌/◌, ◌%◌, ◌<◌, ◌^◌}
 use Rattle.ciborium_ll_grammar.specs.declared.hdr.table.Row.{Row}
 use Rattle.ciborium_ll_grammar.specs.declared.hdr.table.TitleKind.{TitleKind}
 use Rattle.ciborium_ll_grammar.specs.declared.hdr.table.TitleKind.TheVariants as k
@@ -43,3 +43,14 @@ IsAffix a.Reserved minor = IsReserved minor
 pub record IsRow (first : ℕ) (row : Row) : Type 0 where
   pub kind : IsTitleKind row.kind (first / 32) (first % 32)
   pub affix : IsAffix row.affix (first % 32)
+
+-- The least number in a title with this first byte that is the shortest of its header (RFC 7049, 2.3 and 3.9). It is 24
+-- after `18`, and 32 after `f8`. It is 0 for a title of one byte, and for a float.
+pub record IsLeast (first least : ℕ) : Type 0 where
+  pub small : first % 32 < 24 → least ≡ 0
+  pub one : first % 32 ≡ 24 → first / 32 < 7 → least ≡ 24
+  pub two : first % 32 ≡ 25 → first / 32 < 7 → least ≡ 2 ^ 8
+  pub four : first % 32 ≡ 26 → first / 32 < 7 → least ≡ 2 ^ 16
+  pub eight : first % 32 ≡ 27 → first / 32 < 7 → least ≡ 2 ^ 32
+  pub simple : first % 32 ≡ 24 → first / 32 ≡ 7 → least ≡ 32
+  pub float : 24 < first % 32 → first / 32 ≡ 7 → least ≡ 0

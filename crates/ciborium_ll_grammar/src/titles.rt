@@ -5,8 +5,10 @@ ghost use Rattle.std.specs.Prelude.{true, false, take, ◌/◌, ◌^◌, ◌∷�
 ghost use Rattle.std.specs.Int.{to_be_bytes, w16, w32, w64};
 ghost use Rattle.ciborium_ll_grammar.specs.Title.{BeginsRefused, HasFirstTitle, HasNoTitle, IsCutTitle, IsReserved};
 ghost use Rattle.ciborium_ll_grammar.specs.Title.{IsTitle, IsRefused, affix_len};
-ghost use Rattle.ciborium_ll_grammar.specs.Parts.{IsMinor, IsParts, minor_affix, minor_code, minor_number, parts_bytes, title_bytes};
-ghost use Rattle.ciborium_ll_grammar.specs.TitleRows.{IsAffix, IsTitleKind};
+ghost use Rattle.ciborium_ll_grammar.specs.Parts.{IsMinor, IsParts, minor_affix, minor_code, minor_number, parts_bytes};
+ghost use Rattle.ciborium_ll_grammar.specs.Parts.{refused_when_strict, title_bytes};
+ghost use Rattle.ciborium_ll_grammar.specs.TitleRows.{IsAffix, IsLeast, IsTitleKind};
+ghost use Rattle.ciborium_ll_grammar.specs.declared.hdr.Minor.{Minor as AnyMinor};
 
 use crate::hdr::table::{Affix, TitleKind, row_of};
 use crate::hdr::{Header, Minor, Title, open_header, other_header};
@@ -65,29 +67,103 @@ pub fn affix_number(first: u8, word: u64) -> u64
     word >> SHIFTS[usize::from(first % 32)]
 }
 
-/// Returns the minor of a first byte from its affix, which is at the beginning of the eight bytes, and its number (RFC
-/// 7049, 2.1). No branch depends on the affix's length.
+/// Returns the number of a title, by its first byte and the eight bytes of `word` after it (RFC 7049, 2.1). It is in the
+/// lower five bits or in the affix. No branch depends on the width.
+///
+/// `17` gives 23, whatever `word` is. After `19`, the eight bytes `01 00 20 20 20 20 20 20` give 256.
 #[inline(always)]
-pub fn affixed_minor(first: u8, bytes: [u8; 8]) -> (Minor, u64)
-    requires least { 24 ≤ first % 32 }
-    requires most { first % 32 ≤ 27 }
+pub fn title_number(first: u8, word: u64) -> u64
+    ensures small { first % 32 < 24 → result ≡ first % 32 }
+    ensures one { first % 32 ≡ 24 → result ≡ word / 2 ^ 56 }
+    ensures two { first % 32 ≡ 25 → result ≡ word / 2 ^ 48 }
+    ensures four { first % 32 ≡ 26 → result ≡ word / 2 ^ 32 }
+    ensures eight { first % 32 ≡ 27 → result ≡ word }
+{
+    let affix = affix_number(first, word);
+    if first % 32 < 24 {
+        u64::from(first % 32)
+    } else {
+        affix
+    }
+}
+
+/// Returns the minor of a first byte and its number, which is in the lower five bits or in the affix at the beginning of
+/// the eight bytes (RFC 7049, 2.1). No branch depends on the width.
+#[inline(always)]
+pub fn numbered_minor(first: u8, bytes: [u8; 8]) -> (Minor, u64)
+    requires { first % 32 ≤ 27 }
     ensures minor { IsMinor result.0 }
+    ensures code { minor_code result.0 ≡ first % 32 }
     ensures number { minor_number result.0 ≡ Some result.1 }
     ensures bytes { parts_bytes (first / 32) result.0 ≡ first ∷ take (affix_len (first % 32)) bytes }
 {
-    let number = affix_number(first, u64::from_be_bytes(bytes));
+    let number = title_number(first, u64::from_be_bytes(bytes));
     let minor = match first % 32 {
         24 => Minor::One(number),
         25 => Minor::Two(number),
         26 => Minor::Four(number),
-        _ => Minor::Eight(number),
+        27 => Minor::Eight(number),
+        _ => Minor::Small(number),
     };
     (minor, number)
 }
 
+/// The least number in a title of this width that is the shortest of its header, by its first byte, with two lines for
+/// each major type (RFC 7049, 3.9).
+#[rattlefmt::skip]
+const LEASTS: [u64; 256] = [
+    // unsigned integers
+    0, 0, 0, 0, 0, 0, 0, 0, 0, 0, 0, 0, 0, 0, 0, 0,
+    0, 0, 0, 0, 0, 0, 0, 0, 0x18, 0x100, 0x1_0000, 0x1_0000_0000, 0, 0, 0, 0,
+    // negative integers
+    0, 0, 0, 0, 0, 0, 0, 0, 0, 0, 0, 0, 0, 0, 0, 0,
+    0, 0, 0, 0, 0, 0, 0, 0, 0x18, 0x100, 0x1_0000, 0x1_0000_0000, 0, 0, 0, 0,
+    // byte strings
+    0, 0, 0, 0, 0, 0, 0, 0, 0, 0, 0, 0, 0, 0, 0, 0,
+    0, 0, 0, 0, 0, 0, 0, 0, 0x18, 0x100, 0x1_0000, 0x1_0000_0000, 0, 0, 0, 0,
+    // text strings
+    0, 0, 0, 0, 0, 0, 0, 0, 0, 0, 0, 0, 0, 0, 0, 0,
+    0, 0, 0, 0, 0, 0, 0, 0, 0x18, 0x100, 0x1_0000, 0x1_0000_0000, 0, 0, 0, 0,
+    // arrays
+    0, 0, 0, 0, 0, 0, 0, 0, 0, 0, 0, 0, 0, 0, 0, 0,
+    0, 0, 0, 0, 0, 0, 0, 0, 0x18, 0x100, 0x1_0000, 0x1_0000_0000, 0, 0, 0, 0,
+    // maps
+    0, 0, 0, 0, 0, 0, 0, 0, 0, 0, 0, 0, 0, 0, 0, 0,
+    0, 0, 0, 0, 0, 0, 0, 0, 0x18, 0x100, 0x1_0000, 0x1_0000_0000, 0, 0, 0, 0,
+    // tags
+    0, 0, 0, 0, 0, 0, 0, 0, 0, 0, 0, 0, 0, 0, 0, 0,
+    0, 0, 0, 0, 0, 0, 0, 0, 0x18, 0x100, 0x1_0000, 0x1_0000_0000, 0, 0, 0, 0,
+    // simple values and floats
+    0, 0, 0, 0, 0, 0, 0, 0, 0, 0, 0, 0, 0, 0, 0, 0,
+    0, 0, 0, 0, 0, 0, 0, 0, 0x20, 0, 0, 0, 0, 0, 0, 0,
+];
+
+/// Returns the least number in a title with this first byte that is the shortest of its header (RFC 7049, 3.9). A table
+/// has it.
+///
+/// After `19` it is 256. It is 0 for a title of one byte, and for a float.
+#[inline(always)]
+pub fn least_of(first: u8) -> u64
+    ensures { IsLeast first result }
+{
+    LEASTS[first as usize]
+}
+
+/// Tells if a title with this first byte and number is not the shortest of its header (RFC 7049, 2.3 and 3.9). A strict
+/// decoder refuses it. No branch depends on the width.
+///
+/// `19` with 255 is not the shortest, and with 256 it is.
+#[inline(always)]
+pub fn is_longer(first: u8, number: u64) -> bool
+    ensures { (minor : AnyMinor) → IsMinor minor → minor_code minor ≡ first % 32 → minor_number minor ≡ Some number
+        → result ≡ refused_when_strict (first / 32) minor }
+{
+    number < least_of(first)
+}
+
 /// Returns the header of the title of this first byte, minor and number (RFC 7049, 2.1).
 #[inline(always)]
-pub fn affixed_header(first: u8, minor: Minor, number: u64) -> Header
+pub fn numbered_header(first: u8, minor: Minor, number: u64) -> Header
     requires minor { IsMinor minor }
     requires number { minor_number minor ≡ Some number }
     ensures { IsTitle (parts_bytes (first / 32) minor) result }
@@ -104,25 +180,6 @@ pub fn affixed_header(first: u8, minor: Minor, number: u64) -> Header
         4 => Header::Array(Some(number as usize)),
         5 => Header::Map(Some(number as usize)),
         _ => Header::Tag(number),
-    }
-}
-
-/// Returns the header of a title of one byte, whose number is in the lower five bits (RFC 7049, 2.1).
-#[inline(always)]
-pub fn small_header(first: u8) -> Header
-    requires { first % 32 < 24 }
-    ensures { IsTitle (first ∷ []) result }
-{
-    let number = first % 32;
-    match u32::from(first) / 32 {
-        0 => Header::Positive(u64::from(number)),
-        1 => Header::Negative(u64::from(number)),
-        2 => Header::Bytes(Some(usize::from(number))),
-        3 => Header::Text(Some(usize::from(number))),
-        4 => Header::Array(Some(usize::from(number))),
-        5 => Header::Map(Some(usize::from(number))),
-        6 => Header::Tag(u64::from(number)),
-        _ => Header::Simple(number),
     }
 }
 

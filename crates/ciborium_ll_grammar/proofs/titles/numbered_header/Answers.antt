@@ -1,7 +1,7 @@
 use Rattle.std.proofs.Common.{◌≡◌, ◌/◌, refl, arith}
 use Rattle.ciborium_ll_grammar.specs.Title.{Array, ByteString, Map, Negative, Tag, TextString, Unsigned}
 use Rattle.ciborium_ll_grammar.proofs.PartsLaws.{affixed_parts}
-use Rattle.ciborium_ll_grammar.proofs.titles.affixed_header.Goals as goal
+use Rattle.ciborium_ll_grammar.proofs.titles.numbered_header.Goals as goal
 
 pub returns-in-0 : goal.returns-in-0
 returns-in-0 c =
