@@ -8,8 +8,8 @@ use Rattle.ciborium_ll_grammar.specs.Items.{IsTakenTitle}
 use Rattle.ciborium_ll_grammar.specs.TitleRows.{IsTitleKind, IsRow}
 use Rattle.ciborium_ll_grammar.specs.declared.hdr.table.Row.{Row}
 use Rattle.ciborium_ll_grammar.proofs.TitleKinds.{kind_of, Numbered, numbered_title, kind_at, parted}
-use Rattle.cbor_nests.specs.declared.remaining.Remaining.{Remaining}
-use Rattle.cbor_nests.specs.declared.remaining.Remaining.TheVariants as l
+use Rattle.ciborium_ll_grammar.specs.declared.remaining.Remaining.{Remaining}
+use Rattle.ciborium_ll_grammar.specs.declared.remaining.Remaining.TheVariants as l
 use Rattle.cbor_checker.specs.declared.phase.Phase.TheVariants as p
 use Rattle.cbor_parser.specs.declared.strings.Within.{Within}
 use Rattle.cbor_parser.specs.declared.strings.Within.TheVariants as w

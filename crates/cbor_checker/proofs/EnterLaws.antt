@@ -13,8 +13,8 @@ use Rattle.ciborium_ll_grammar.proofs.TitleLaws.{one_title}
 use Rattle.ciborium_ll_grammar.proofs.StringLaws.{break_title}
 use Rattle.ciborium_ll_grammar.proofs.ElementLaws.{bytes_writable}
 use Rattle.ciborium_ll_text.proofs.StateLaws.{text_ends, text_from}
-use Rattle.cbor_nests.specs.declared.remaining.Remaining.{Remaining}
-use Rattle.cbor_nests.specs.declared.remaining.Remaining.TheVariants as l
+use Rattle.ciborium_ll_grammar.specs.declared.remaining.Remaining.{Remaining}
+use Rattle.ciborium_ll_grammar.specs.declared.remaining.Remaining.TheVariants as l
 use Rattle.cbor_parser.specs.declared.strings.Within.TheVariants as w
 use Rattle.cbor_checker.specs.Spots.{Spot, nested, broken, body_placed, item_entered}
 use Rattle.cbor_checker.proofs.Waiting.{Takes, Ends, Breaks, ItemDue, Waits, EndsString}

@@ -12,7 +12,7 @@ use Rattle.ciborium_ll_text.specs.Text.{IsFront}
 use Rattle.ciborium_ll_text.proofs.EndLaws.{may_back}
 use Rattle.ciborium_ll_text.proofs.Lists.{Below, below_rest, below_take, rest_long}
 use Rattle.ciborium_ll_text.proofs.StateLaws.{after-append, text_ends}
-use Rattle.cbor_nests.specs.declared.remaining.Remaining.{Remaining}
+use Rattle.ciborium_ll_grammar.specs.declared.remaining.Remaining.{Remaining}
 use Rattle.cbor_checker.specs.declared.phase.Phase.{Phase}
 use Rattle.cbor_checker.specs.declared.phase.Phase.TheVariants as p
 use Rattle.cbor_checker.specs.Spots.{Spot, at_phase, settled, bytes_due}

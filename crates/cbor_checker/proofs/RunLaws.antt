@@ -3,10 +3,10 @@ use Rattle.std.proofs.Common.{◌≡◌, ℕ, zero, suc, ◌+◌, ◌-◌, ◌<�
 use Rattle.std.proofs.Common.{◌∙◌, arith, Some, None, length-append, zero-add, add-zero, add-one, ◌*◌, take, drop}
 use Rattle.std.proofs.Common.{Bool, slice_index, true}
 use Rattle.std.proofs.lemmas.Bool.Decides.{nat_tests}
-use Rattle.cbor_nests.specs.declared.remaining.Remaining.{Remaining}
+use Rattle.ciborium_ll_grammar.specs.declared.remaining.Remaining.{Remaining}
 use Rattle.cbor_checker.specs.declared.phase.Phase.TheVariants as p
 use Rattle.cbor_parser.specs.declared.strings.Within.TheVariants as w
-use Rattle.cbor_nests.specs.Remaining.{next}
+use Rattle.ciborium_ll_grammar.specs.Remaining.{next}
 use Rattle.cbor_checker.specs.Stack.{innermost, others}
 use Rattle.cbor_checker.specs.Plain.{ArePlain, counted_behind, lowered, more, none, passed, placed}
 use Rattle.cbor_checker.specs.Plain.{IsNestTitle}
@@ -19,7 +19,7 @@ use Rattle.std.proofs.lemmas.List.{length-take-le, take_rest}
 use Rattle.std.proofs.Math.Seq.{take-add}
 use Rattle.ciborium_ll_text.proofs.Lists.{Below, rest_long}
 use Rattle.ciborium_ll_grammar.specs.Title.{Array, Major, Map, Small, major_code, numbered_header}
-use Rattle.cbor_nests.specs.declared.remaining.Remaining.TheVariants as l
+use Rattle.ciborium_ll_grammar.specs.declared.remaining.Remaining.TheVariants as l
 use Rattle.cbor_checker.proofs.PlainLaws.{one_taken}
 
 -- ---- the nest with fewer items

@@ -1,10 +1,10 @@
 -- The spot after a whole item, as the code makes it.
 use Rattle.std.proofs.Common.{◌≡◌, ℕ, suc, ◌+◌, ◌-◌, true, List, [], ◌∷◌, Some, None, refl, ◌∙◌, arith}
 use Rattle.std.proofs.lemmas.Bool.Decides.{nat_tests}
-use Rattle.cbor_nests.specs.declared.remaining.Remaining.{Remaining}
+use Rattle.ciborium_ll_grammar.specs.declared.remaining.Remaining.{Remaining}
 use Rattle.cbor_checker.specs.declared.phase.Phase.{Phase}
 use Rattle.cbor_parser.specs.declared.strings.Within.{Within}
-use Rattle.cbor_nests.specs.Remaining.{next}
+use Rattle.ciborium_ll_grammar.specs.Remaining.{next}
 use Rattle.cbor_checker.specs.Levels.{ends_before}
 use Rattle.cbor_checker.specs.Stack.{innermost, others}
 use Rattle.cbor_checker.specs.Spots.{Spot, settled, item_done, item_due, nested, broken}

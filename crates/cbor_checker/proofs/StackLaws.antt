@@ -5,8 +5,8 @@ use Rattle.std.proofs.Common.{add-one, inl, inr}
 use Rattle.std.proofs.Math.ListN.{get_or-append, set}
 use Rattle.std.proofs.lemmas.List.{get_or-take, set-get_or}
 use Rattle.std.proofs.lemmas.Option.{same_Some}
-use Rattle.cbor_nests.specs.declared.remaining.Remaining.{Remaining}
-use Rattle.cbor_nests.specs.declared.remaining.Remaining.TheVariants as l
+use Rattle.ciborium_ll_grammar.specs.declared.remaining.Remaining.{Remaining}
+use Rattle.ciborium_ll_grammar.specs.declared.remaining.Remaining.TheVariants as l
 use Rattle.cbor_checker.specs.Snapshots.{levels_in, level_in, within_others}
 use Rattle.cbor_checker.specs.Spots.{Spot, item_due, settled}
 use Rattle.cbor_checker.specs.Stack.{levels_of, others}

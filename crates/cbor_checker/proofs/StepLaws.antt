@@ -15,7 +15,7 @@ use Rattle.ciborium_ll_text.specs.States.{after_byte, may_end}
 use Rattle.ciborium_ll_text.proofs.EndLaws.{none_left, text_may_end}
 use Rattle.ciborium_ll_text.proofs.Lists.{front_of_front}
 use Rattle.std.proofs.lemmas.Bool.{cases_lt}
-use Rattle.cbor_nests.specs.declared.remaining.Remaining.{Remaining}
+use Rattle.ciborium_ll_grammar.specs.declared.remaining.Remaining.{Remaining}
 use Rattle.cbor_checker.specs.declared.phase.Phase.{Phase}
 use Rattle.cbor_checker.specs.declared.phase.Phase.TheVariants as p
 use Rattle.cbor_parser.specs.declared.strings.Within.{Within}

@@ -12,7 +12,7 @@ use Rattle.ciborium_ll_grammar.specs.declared.hdr.table.TitleKind.TheVariants as
 use Rattle.ciborium_ll_grammar.specs.Title.{IsTitle}
 use Rattle.ciborium_ll_grammar.specs.Items.{IsTakenTitle}
 use Rattle.ciborium_ll_grammar.specs.TitleRows.{IsTitleKind}
-use Rattle.cbor_nests.specs.declared.remaining.Remaining.TheVariants as l
+use Rattle.ciborium_ll_grammar.specs.declared.remaining.Remaining.TheVariants as l
 use Rattle.cbor_parser.specs.declared.strings.Within.TheVariants as w
 use Rattle.cbor_checker.specs.Blocked.{blocked}
 use Rattle.cbor_checker.specs.Plain.{IsPlacedItem, IsPlainItem, IsTagTitle, passed, placed}

@@ -6,8 +6,8 @@ use Rattle.ciborium_ll_grammar.specs.Title.{affix_len}
 use Rattle.ciborium_ll_grammar.specs.declared.limits.TheConstants.{LONGEST_TITLE, MOST_LEVELS}
 use Rattle.ciborium_ll_text.specs.declared.state.State.{State}
 use Rattle.ciborium_ll_text.specs.Numbers.{state_in}
-use Rattle.cbor_nests.specs.declared.remaining.Remaining.{Remaining}
-use Rattle.cbor_nests.specs.declared.remaining.Remaining.TheVariants as l
+use Rattle.ciborium_ll_grammar.specs.declared.remaining.Remaining.{Remaining}
+use Rattle.ciborium_ll_grammar.specs.declared.remaining.Remaining.TheVariants as l
 use Rattle.cbor_checker.specs.declared.phase.Phase.{Phase}
 use Rattle.cbor_checker.specs.declared.phase.Phase.TheVariants as p
 use Rattle.cbor_checker.specs.declared.phase.Fault.TheVariants as f

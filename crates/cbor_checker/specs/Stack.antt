@@ -1,6 +1,6 @@
 -- The nests around an item, as a list.
 use Rattle.std.specs.Prelude.{List, [], ◌∷◌, Option, Some, None}
-use Rattle.cbor_nests.specs.declared.remaining.Remaining.{Remaining}
+use Rattle.ciborium_ll_grammar.specs.declared.remaining.Remaining.{Remaining}
 
 -- The nests around an item, or an empty list if their numbers are those of no nests. The kind 0 with the count 1 is one
 -- nest, as after `82`, and there is no kind 6.

@@ -1,6 +1,6 @@
 -- A checker during a call as the spot that it has come to. The numbers of its nests stand in the caller's memory.
 use Rattle.std.specs.Prelude.{◌≡◌, ◌-◌, ℕ, List, length, take, drop}
-use Rattle.cbor_nests.specs.declared.remaining.Remaining.{Remaining}
+use Rattle.ciborium_ll_grammar.specs.declared.remaining.Remaining.{Remaining}
 use Rattle.cbor_checker.specs.declared.levels.Levels.{Levels}
 use Rattle.cbor_checker.specs.declared.walk.Walk.{Walk}
 use Rattle.cbor_checker.specs.Snapshots.{levels_in}

@@ -1,13 +1,13 @@
 //! The rest of a tag, an array or a map after the item that is due in it.
 
 ghost use Rattle.std.specs.Prelude.{◌≡◌, ◌<◌, Some, IfSome};
-ghost use Rattle.cbor_nests.specs.declared.remaining.Remaining.{Remaining as AnyRemaining};
-ghost use Rattle.cbor_nests.specs.Remaining.{closes, next};
+ghost use Rattle.ciborium_ll_grammar.specs.declared.remaining.Remaining.{Remaining as AnyRemaining};
+ghost use Rattle.ciborium_ll_grammar.specs.Remaining.{closes, next};
 ghost use Rattle.cbor_checker.specs.Plain.{counted_behind, lowered};
 ghost use Rattle.cbor_checker.specs.Levels.{ends_before};
 ghost use Rattle.cbor_checker.specs.Snapshots.{level_in};
 
-use cbor_nests::Remaining;
+use ciborium_ll_grammar::remaining::Remaining;
 
 /// Returns how many items the rest has, if they are counted and can be doubled. `None` says nothing.
 #[inline(always)]

@@ -6,8 +6,8 @@ ghost use Rattle.cbor_checker.specs.Stack.{innermost, others};
 ghost use Rattle.ciborium_ll_grammar.specs.declared.limits.TheConstants.{MOST_LEVELS};
 
 use crate::level::{level_of, numbers_of};
-use cbor_nests::Remaining;
 use ciborium_ll_grammar::limits::MOST_LEVELS;
+use ciborium_ll_grammar::remaining::Remaining;
 
 /// The number of the kind of [`Remaining::Items`].
 const ITEMS: u8 = 0;

@@ -17,13 +17,13 @@ use crate::levels::Levels;
 use crate::phase::{Fault, Phase};
 use crate::plain::is_short_ascii;
 use crate::title::{blocked, is_single};
-use cbor_nests::Remaining;
 use cbor_parser::begun::begins_none;
 use cbor_parser::few::Few;
 use cbor_parser::strings::{StringKind, Within};
 use cbor_parser::title::taken_header;
 use ciborium_ll_grammar::hdr::Header;
 use ciborium_ll_grammar::hdr::table::{Affix, TitleKind, row_of};
+use ciborium_ll_grammar::remaining::Remaining;
 use ciborium_ll_grammar::spelling::Spelling;
 use ciborium_ll_text::state::{State, text_front};
 

@@ -17,12 +17,12 @@ use Rattle.cbor_checker.specs.declared.phase.Fault.{Fault}
 use Rattle.cbor_checker.specs.declared.phase.Fault.TheVariants as f
 use Rattle.cbor_parser.specs.declared.strings.Within.{Within}
 use Rattle.cbor_parser.specs.declared.strings.Within.TheVariants as w
-use Rattle.cbor_nests.specs.Remaining.{next}
+use Rattle.ciborium_ll_grammar.specs.Remaining.{next}
 use Rattle.cbor_checker.specs.Spots.{Spot, settled, broken, item_entered, entered}
 use Rattle.cbor_parser.specs.Titles.{SomeTaken}
 use Rattle.cbor_checker.specs.Steps.{TitleStep, cut, early, whole, none, with_byte}
 use Rattle.cbor_checker.proofs.EnterLaws.{break_bytes}
-use Rattle.cbor_nests.specs.declared.remaining.Remaining.{Remaining}
+use Rattle.ciborium_ll_grammar.specs.declared.remaining.Remaining.{Remaining}
 use Rattle.cbor_checker_laws.proofs.Runs.{Runs, fault_of, next_of, at, inside}
 use Rattle.cbor_checker_laws.proofs.TitleRuns.{Faults, Titled, taken, known, untaken}
 use Rattle.cbor_checker_laws.proofs.StringRuns.{break_taken}

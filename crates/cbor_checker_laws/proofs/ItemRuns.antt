@@ -18,10 +18,10 @@ use Rattle.cbor_checker.specs.declared.phase.Fault.{Fault}
 use Rattle.cbor_parser.specs.declared.strings.StringKind.TheVariants as sk
 use Rattle.cbor_parser.specs.declared.strings.Within.{Within}
 use Rattle.cbor_parser.specs.declared.strings.Within.TheVariants as w
-use Rattle.cbor_nests.specs.Remaining.{contents, next}
+use Rattle.ciborium_ll_grammar.specs.Remaining.{contents, next}
 use Rattle.cbor_checker.specs.Spots.{broken, settled, item_entered, bytes_due, text_due}
 use Rattle.cbor_skip.specs.Due.{IsNest, TakesMore, may_close}
-use Rattle.cbor_nests.specs.declared.remaining.Remaining.{Remaining}
+use Rattle.ciborium_ll_grammar.specs.declared.remaining.Remaining.{Remaining}
 use Rattle.cbor_checker_laws.proofs.Levels.{reached, reached_first, reached_next, reached_closes, takes_nest}
 use Rattle.cbor_checker_laws.proofs.Runs.{On, on_to, at, behind, settled_with}
 use Rattle.cbor_checker_laws.proofs.TitleRuns.{taken_on}

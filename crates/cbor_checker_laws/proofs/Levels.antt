@@ -3,9 +3,9 @@ use Rattle.std.proofs.Common.{◌≡◌, ℕ, suc, ◌-◌, ◌*◌, ◌%◌, �
 use Rattle.std.proofs.lemmas.Bool.Decides.{nat_tests}
 use Rattle.ciborium_ll_grammar.specs.declared.hdr.Header.{Header}
 use Rattle.ciborium_ll_grammar.specs.declared.hdr.Header.TheVariants as h
-use Rattle.cbor_nests.specs.declared.remaining.Remaining.{Remaining}
-use Rattle.cbor_nests.specs.declared.remaining.Remaining.TheVariants as r
-use Rattle.cbor_nests.specs.Remaining.{IsNest, contents, next}
+use Rattle.ciborium_ll_grammar.specs.declared.remaining.Remaining.{Remaining}
+use Rattle.ciborium_ll_grammar.specs.declared.remaining.Remaining.TheVariants as r
+use Rattle.ciborium_ll_grammar.specs.Remaining.{IsNest, contents, next}
 use Rattle.cbor_checker.specs.Levels.{ends_before}
 use Rattle.cbor_checker.specs.Plain.{pairs_of}
 use Rattle.cbor_skip.specs.Due.{TakesMore, may_close}

@@ -19,7 +19,7 @@ use Rattle.cbor_parser.specs.declared.strings.Within.{Within}
 use Rattle.cbor_parser.specs.declared.strings.Within.TheVariants as w
 use Rattle.cbor_checker.specs.Levels.{ends_before}
 use Rattle.cbor_checker.specs.Spots.{Spot}
-use Rattle.cbor_nests.specs.declared.remaining.Remaining.{Remaining}
+use Rattle.ciborium_ll_grammar.specs.declared.remaining.Remaining.{Remaining}
 use Rattle.cbor_checker_laws.proofs.Levels.{reached, reached_closes, takes_before, takes_nest}
 use Rattle.cbor_checker_laws.proofs.Runs.{Runs, On, at, inside}
 use Rattle.cbor_checker_laws.proofs.TitleRuns.{taken_on}

@@ -14,7 +14,7 @@ use Rattle.cbor_parser.specs.declared.strings.Within.{Within}
 use Rattle.cbor_checker.specs.Spots.{Spot, string_done, bytes_due, text_due}
 use Rattle.cbor_checker.specs.Steps.{text_left}
 use Rattle.cbor_checker.proofs.LeadLaws.{between_ends, due_alike, left_alike}
-use Rattle.cbor_nests.specs.declared.remaining.Remaining.{Remaining}
+use Rattle.ciborium_ll_grammar.specs.declared.remaining.Remaining.{Remaining}
 use Rattle.cbor_checker_laws.proofs.Runs.{Runs, fault_of, next_of, some_due, On, on_to, at, inside}
 use Rattle.ciborium_ll_grammar.specs.declared.spelling.Spelling.{Spelling}
 use Rattle.ciborium_ll_grammar.specs.declared.spelling.Spelling.TheVariants.{Any, Shortest}

@@ -9,12 +9,12 @@ use Rattle.ciborium_ll_grammar.specs.Items.{IsTakenTitle}
 use Rattle.ciborium_ll_grammar.proofs.TitleLaws.{one_title}
 use Rattle.ciborium_ll_grammar.proofs.AffixLaws.{title_not_cut}
 use Rattle.ciborium_ll_grammar.proofs.AloneLaws.{title_some}
-use Rattle.cbor_nests.specs.declared.remaining.Remaining.{Remaining}
+use Rattle.ciborium_ll_grammar.specs.declared.remaining.Remaining.{Remaining}
 use Rattle.cbor_checker.specs.declared.phase.Phase.TheVariants as p
 use Rattle.cbor_checker.specs.declared.phase.Fault.{Fault}
 use Rattle.cbor_checker.specs.declared.phase.Fault.TheVariants as f
 use Rattle.cbor_parser.specs.declared.strings.Within.{Within}
-use Rattle.cbor_nests.specs.Remaining.{next}
+use Rattle.ciborium_ll_grammar.specs.Remaining.{next}
 use Rattle.cbor_checker.specs.Spots.{Spot, settled, entered, text_due}
 use Rattle.cbor_checker.specs.Steps.{TitleStep, cut, early, whole, none}
 use Rattle.cbor_checker_laws.proofs.Runs.{Runs, faulted, fault_of, next_of, On, at}

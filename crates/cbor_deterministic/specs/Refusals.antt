@@ -5,6 +5,7 @@ use Rattle.ciborium_ll_text.specs.Text.{IsCharacters}
 use Rattle.ciborium_ll_grammar.specs.declared.hdr.Header.{Header}
 use Rattle.ciborium_ll_grammar.specs.declared.hdr.Header.TheVariants as h
 use Rattle.ciborium_ll_grammar.specs.Title.{IsTitle, shortest_title, IsSmallSimple, IsCutTitle, BeginsRefused}
+use Rattle.ciborium_ll_grammar.specs.Remaining.{IsNest}
 use Rattle.cbor_deterministic.specs.declared.Why.{Why}
 use Rattle.cbor_deterministic.specs.declared.Why.TheVariants.{Cut, NoTitle, NotShortest, Indefinite, NoSimple, NoText}
 use Rattle.cbor_deterministic.specs.declared.Why.TheVariants.{KeyOrder, DuplicateKey, Deep}
@@ -29,14 +30,6 @@ pub data FailsTitle : List ℕ → Why → Type 0 where
       → FailsTitle (title ++ rest) Indefinite
   small_simple : {title : List ℕ} {header : Header} (rest : List ℕ) → IsTitle title header → IsSmallSimple header
       → FailsTitle (title ++ rest) NoSimple
-
--- The header is that of a tag, an array or a map (RFC 8949, 3.1). The headers of `c1`, `82` and `a2` are such headers,
--- and that of `61` is not.
-abbrev pub IsNest : Header → Type 0
-IsNest (h.Tag number) = Unit {0}
-IsNest (h.Array count) = Unit {0}
-IsNest (h.Map count) = Unit {0}
-IsNest header = ⊥
 
 -- Why a key may not follow the key `above`: it is the same key, or it comes before `above` (RFC 8949, 4.2.1 and 5.6).
 -- After `03` the key `01` is `KeyOrder`, and `03` is `DuplicateKey`.

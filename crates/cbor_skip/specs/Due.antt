@@ -10,7 +10,7 @@ use Rattle.ciborium_ll_grammar.specs.Strings.{Kind, kind_header}
 use Rattle.ciborium_ll_grammar.specs.Elements.{AreWritable}
 use Rattle.ciborium_ll_grammar.specs.Items.{AreItems, AreTakenStrings, IsTakenTitle}
 use Rattle.ciborium_ll_grammar.specs.Faults.{IsInside, Point, Due, In, BodyDue}
-pub use Rattle.cbor_nests.specs.Remaining.{IsNest}
+pub use Rattle.ciborium_ll_grammar.specs.Remaining.{IsNest}
 
 -- After the header and `count` items one more may stand. A tag takes one item (RFC 7049, 2.4), an array as many as it
 -- counts, and a map two for each pair (2.1). The indefinite forms take any number (2.2.1). After `82 01` one more may

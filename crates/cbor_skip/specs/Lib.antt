@@ -5,4 +5,4 @@ pub mod Skipping
 pub mod SkippingTold
 pub mod SkipTexts
 pub mod Types
-pub use Rattle.cbor_nests.specs.Remaining
+pub use Rattle.ciborium_ll_grammar.specs.Remaining

@@ -1,2 +1,2 @@
 -- The types of other crates that this one hands on, by their names alone.
-pub use Rattle.cbor_nests.specs.declared.remaining.Remaining
+pub use Rattle.ciborium_ll_grammar.specs.declared.remaining.Remaining

@@ -22,11 +22,11 @@ pub mod laws;
 mod messages;
 
 pub use self::after::skip_after;
-pub use cbor_nests::Remaining;
 use ciborium_ll_decoder::dec::{Decoder, Error};
 use ciborium_ll_decoder::skip::{skip_bytes, skip_text};
 use ciborium_ll_decoder::title::pull_title;
 use ciborium_ll_grammar::hdr::{Header, Start};
+pub use ciborium_ll_grammar::remaining::Remaining;
 use ciborium_ll_io::io::Read;
 
 /// Why no item was skipped.

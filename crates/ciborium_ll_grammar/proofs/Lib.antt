@@ -10,6 +10,7 @@ pub mod LeastLaws
 pub mod LongerLaws
 pub mod OpenStrings
 pub mod PartsLaws
+pub mod RemainingLaws
 pub mod RunJoins
 pub mod SpelledLaws
 pub mod SpellingLaws

@@ -2,6 +2,7 @@ pub mod Elements
 pub mod Faults
 pub mod Items
 pub mod Parts
+pub mod Remaining
 pub mod Shortening
 pub mod Spellings
 pub mod Starts

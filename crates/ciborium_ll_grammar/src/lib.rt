@@ -7,5 +7,6 @@
 
 pub mod hdr;
 pub mod limits;
+pub mod remaining;
 pub mod spelling;
 pub mod titles;

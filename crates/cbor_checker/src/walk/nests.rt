@@ -6,7 +6,7 @@ ghost use Rattle.cbor_checker.specs.Plain.{IsNestTitle, counted_behind};
 use super::Walk;
 use crate::level::{items_left, lowered};
 use crate::plain::plain_run;
-use cbor_nests::Remaining;
+use ciborium_ll_grammar::remaining::Remaining;
 
 /// A nest whose items are counted, with an item due in it.
 #[derive(Drop)]

@@ -2,9 +2,9 @@
 use Rattle.std.proofs.Common.{◌≡◌, ℕ, suc, Some, None, arith}
 use Rattle.ciborium_ll_grammar.specs.declared.hdr.Header.{Header}
 use Rattle.ciborium_ll_grammar.specs.declared.hdr.Header.TheVariants as h
-use Rattle.cbor_nests.specs.declared.remaining.Remaining.{Remaining}
-use Rattle.cbor_nests.specs.declared.remaining.Remaining.TheVariants as r
-use Rattle.cbor_nests.specs.Remaining.{IsRemaining, next}
+use Rattle.ciborium_ll_grammar.specs.declared.remaining.Remaining.{Remaining}
+use Rattle.ciborium_ll_grammar.specs.declared.remaining.Remaining.TheVariants as r
+use Rattle.ciborium_ll_grammar.specs.Remaining.{IsRemaining, next}
 
 -- One more item leaves the rest after it.
 pub next_remains : (x : Header) (count : ℕ) (remaining after : Remaining) → next remaining ≡ Some after

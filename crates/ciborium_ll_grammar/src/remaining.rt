@@ -2,9 +2,9 @@
 
 ghost use Rattle.std.specs.Prelude.{◌≡◌, ℕ, suc, false};
 ghost use Rattle.ciborium_ll_grammar.specs.declared.hdr.Header.{Header as AnyHeader};
-ghost use Rattle.cbor_nests.specs.Remaining.{IsNest, IsRemaining, closes, contents, is_done, is_value, next};
+ghost use Rattle.ciborium_ll_grammar.specs.Remaining.{IsNest, IsRemaining, closes, contents, is_done, is_value, next};
 
-use ciborium_ll_grammar::hdr::Header;
+use crate::hdr::Header;
 
 /// The items that are still due within a tag, an array or a map. Pairs count as pairs, so no count is greater than the
 /// header's.

@@ -2,8 +2,8 @@
 use Rattle.std.specs.Prelude.{◌≡◌, ℕ, zero, suc, ◌+◌, ◌*◌, Bool, true, false, Option, Some, None}
 use Rattle.ciborium_ll_grammar.specs.declared.hdr.Header.{Header}
 use Rattle.ciborium_ll_grammar.specs.declared.hdr.Header.TheVariants as h
-use Rattle.cbor_nests.specs.declared.remaining.Remaining.{Remaining}
-use Rattle.cbor_nests.specs.declared.remaining.Remaining.TheVariants as r
+use Rattle.ciborium_ll_grammar.specs.declared.remaining.Remaining.{Remaining}
+use Rattle.ciborium_ll_grammar.specs.declared.remaining.Remaining.TheVariants as r
 
 -- A nest: a header that items follow, one level deeper. It is that of a tag (RFC 7049, 2.4), an array or a map (2.1,
 -- 2.2.1). The titles `c1`, `82` and `bf` begin nests, and `61` begins none.
