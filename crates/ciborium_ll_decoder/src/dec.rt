@@ -8,7 +8,9 @@ use ciborium_ll_grammar::hdr::table::{Affix, row_of, title_lens};
 use ciborium_ll_grammar::hdr::{Header, Minor, Title, shortest};
 use ciborium_ll_grammar::limits::LONGEST_TITLE;
 use ciborium_ll_grammar::spelling::Spelling;
-use ciborium_ll_grammar::titles::{is_longer, numbered_header, numbered_minor, open_title};
+use ciborium_ll_grammar::titles::{
+    has_number, is_longer, numbered_header, numbered_minor, open_title,
+};
 use ciborium_ll_io::io::{Failures, Read};
 
 /// Why a decoder failed.
@@ -213,7 +215,7 @@ impl<R: Read> Decoder<R> {
             title_len header ≤ length (begun.0 ∷ take (affix_len (begun.0 % 32)) begun.1)) }
     {
         let first = begun.0;
-        if first % 32 > 27 {
+        if !has_number(first) {
             return match open_title(first) {
                 Some(header) => Ok(header),
                 None => Err(Error::Syntax(start)),

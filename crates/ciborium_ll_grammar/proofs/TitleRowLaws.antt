@@ -1,14 +1,12 @@
 -- The table agrees with the definition of titles on each first byte.
-use Rattle.std.proofs.Common.{◌≡◌, ℕ, ◌+◌, ◌/◌, ◌%◌, ◌<◌, Bool, true, not, ◌&&◌, ◌||◌, eqb, ltb, leb, get_or, refl, arith}
+use Rattle.std.proofs.Common.{◌≡◌, ℕ, ◌+◌, ◌/◌, ◌%◌, ◌<◌, Bool, true, not, ◌&&◌, ◌||◌, eqb, ltb, leb, get_or, refl, arith, if◌then◌else◌}
 use Rattle.std.proofs.lemmas.Bool.{agree_below_at, and_parts}
 use Rattle.ciborium_ll_grammar.specs.declared.hdr.table.Row.{Row}
 use Rattle.ciborium_ll_grammar.specs.declared.hdr.table.TitleKind.{TitleKind}
 use Rattle.ciborium_ll_grammar.specs.declared.hdr.table.TitleKind.TheVariants as k
 use Rattle.ciborium_ll_grammar.specs.declared.hdr.table.Affix.{Affix}
 use Rattle.ciborium_ll_grammar.specs.declared.hdr.table.Affix.TheVariants as a
-use Rattle.ciborium_ll_grammar.specs.declared.hdr.table.TheConstants.{LENS, ROWS, POSITIVE}
-use Rattle.ciborium_ll_grammar.specs.declared.titles.TheConstants.{SHIFTS}
-use Rattle.ciborium_ll_grammar.specs.Title.{affix_len}
+use Rattle.ciborium_ll_grammar.specs.declared.hdr.table.TheConstants.{FORMS, ROWS, POSITIVE}
 use Rattle.ciborium_ll_grammar.specs.TitleRows.{IsAffix, IsTitleKind, IsRow}
 use Rattle.std.proofs.lemmas.Bool.Decides.{nat_tests}
 
@@ -72,21 +70,17 @@ row_says first l =
     row_tells first (get_or ROWS first POSITIVE) (agree_below_at (λ (b : ℕ). row_test b (get_or ROWS b POSITIVE))
     (λ (b : ℕ). true) 256 first refl l)
 
--- Numbers are equal, or one is below the other, if the test of that succeeds.
-
 eqb_tells : (m n : ℕ) → eqb m n ≡ true → m ≡ n
 eqb_tells m n e = grind (arith, nat_tests)
 
-ltb_tells : (m n : ℕ) → ltb m n ≡ true → m < n
-ltb_tells m n e = grind (arith, nat_tests)
+-- The shift of an affix as a function of the minor.
+abbrev shift_by : ℕ → ℕ
+shift_by minor =
+    if ltb 27 minor then 64 else (if eqb minor 24 then 56 else (if eqb minor 25 then 48 else (if eqb minor 26 then 32
+    else 0)))
 
--- The length of a title is right for each minor.
-pub lens_say : (minor : ℕ) → minor < 32 → get_or LENS minor 0 ≡ 1 + affix_len minor
-lens_say minor l =
-    eqb_tells _ _ (agree_below_at (λ (b : ℕ). eqb (get_or LENS b 0) (1 + affix_len b)) (λ (b : ℕ). true) 32 minor refl
-    l)
-
--- No shift leaves the 64 bits of eight bytes.
-pub shifts_fit : (minor : ℕ) → minor < 32 → get_or SHIFTS minor 0 < 64
-shifts_fit minor l =
-    ltb_tells _ _ (agree_below_at (λ (b : ℕ). ltb (get_or SHIFTS b 0) 64) (λ (b : ℕ). true) 32 minor refl l)
+-- The shift is right for each minor.
+pub shifts_say : (minor : ℕ) → minor < 32 → get_or FORMS (32 + minor) 0 ≡ shift_by minor
+shifts_say minor l =
+    eqb_tells _ _ (agree_below_at (λ (b : ℕ). eqb (get_or FORMS (32 + b) 0) (shift_by b)) (λ (b : ℕ). true) 32 minor
+    refl l)

@@ -10,7 +10,7 @@ ghost use Rattle.ciborium_ll_grammar.specs.Parts.{refused_when_strict, title_byt
 ghost use Rattle.ciborium_ll_grammar.specs.TitleRows.{IsAffix, IsLeast, IsTitleKind};
 ghost use Rattle.ciborium_ll_grammar.specs.declared.hdr.Minor.{Minor as AnyMinor};
 
-use crate::hdr::table::{Affix, TitleKind, row_of};
+use crate::hdr::table::{Affix, NO_NUMBER, TitleKind, row_of, shift_of};
 use crate::hdr::{Header, Minor, Title, open_header, other_header};
 
 /// Tells if the bytes are too few for their title.
@@ -45,14 +45,6 @@ fn minor_of(affix: Affix, first: u8, bytes: &[u8]) -> Option<Minor>
     }
 }
 
-/// How many of the 64 bits of eight bytes follow the affix at their beginning, for each value of the lower five bits of
-/// a first byte (RFC 7049, 2.1).
-#[rattlefmt::skip]
-const SHIFTS: [u32; 32] = [
-    0, 0, 0, 0, 0, 0, 0, 0, 0, 0, 0, 0, 0, 0, 0, 0,
-    0, 0, 0, 0, 0, 0, 0, 0, 56, 48, 32, 0, 0, 0, 0, 0,
-];
-
 /// Returns the number in the affix at the beginning of the eight bytes of `word` (RFC 7049, 2.1). A table has the affix's
 /// length. Only the minors from 24 to 27 have an affix.
 ///
@@ -64,7 +56,16 @@ pub fn affix_number(first: u8, word: u64) -> u64
     ensures four { first % 32 ≡ 26 → result ≡ word / 2 ^ 32 }
     ensures eight { first % 32 ≡ 27 → result ≡ word }
 {
-    word >> SHIFTS[usize::from(first % 32)]
+    word >> (u32::from(shift_of(first)) % 64)
+}
+
+/// Tells if titles with this first byte have a number (RFC 7049, 2.1): those of the minors up to 27.
+#[inline(always)]
+pub fn has_number(first: u8) -> bool
+    ensures yes { result ≡ true → first % 32 ≤ 27 }
+    ensures no { result ≡ false → 27 < first % 32 }
+{
+    shift_of(first) != NO_NUMBER
 }
 
 /// Returns the number of a title, by its first byte and the eight bytes of `word` after it (RFC 7049, 2.1). It is in the

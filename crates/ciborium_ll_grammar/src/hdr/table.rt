@@ -1,8 +1,9 @@
 //! A table of first bytes (RFC 7049, 2.1 to 2.3).
 
-ghost use Rattle.std.specs.Prelude.{ℕ, ◌≡◌, ◌+◌, ◌<◌, slice_index};
+ghost use Rattle.std.specs.Prelude.{ℕ, ◌≡◌, ◌+◌, ◌<◌, ◌%◌, slice_index};
 ghost use Rattle.ciborium_ll_grammar.specs.Title.{affix_len};
 ghost use Rattle.ciborium_ll_grammar.specs.TitleRows.{IsAffix, IsRow};
+ghost use Rattle.ciborium_ll_grammar.specs.declared.hdr.table.TheConstants.{NO_NUMBER};
 
 /// The meaning of a title without its number (RFC 7049, 2.1).
 #[derive(Clone, Copy)]
@@ -49,11 +50,19 @@ pub enum Affix {
 /// The number of bytes of the affix for each variant of [`Affix`]. A look-up takes no branch.
 const AFFIX_LENS: [usize; 7] = [0, 1, 2, 4, 8, 0, 0];
 
-/// The length of a title, in bytes, for each value of the lower five bits of its first byte (RFC 7049, 2.1).
+/// The entry of [`FORMS`] for a title without a number.
+pub(crate) const NO_NUMBER: u8 = 64;
+
+/// The form of a title, by the lower five bits of its first byte (RFC 7049, 2.1).
+///
+/// Two lines have the title's length in bytes. Two more say how many of the 64 bits after the first byte follow the
+/// affix, or that there is no number. All stand in one table, so that a loop needs one address for them.
 #[rattlefmt::skip]
-static LENS: [u8; 32] = [
+static FORMS: [u8; 64] = [
     1, 1, 1, 1, 1, 1, 1, 1, 1, 1, 1, 1, 1, 1, 1, 1,
     1, 1, 1, 1, 1, 1, 1, 1, 2, 3, 5, 9, 1, 1, 1, 1,
+    0, 0, 0, 0, 0, 0, 0, 0, 0, 0, 0, 0, 0, 0, 0, 0,
+    0, 0, 0, 0, 0, 0, 0, 0, 56, 48, 32, 0, 64, 64, 64, 64,
 ];
 
 /// Returns the length of a title, in bytes, for each value of the lower five bits of its first byte (RFC 7049, 2.1).
@@ -61,7 +70,23 @@ static LENS: [u8; 32] = [
 pub fn title_lens() -> &'static [u8; 32]
     ensures { (minor : ℕ) → minor < 32 → slice_index result.now minor ≡ 1 + affix_len minor }
 {
-    &LENS
+    match FORMS.first_chunk::<32>() {
+        Some(lens) => lens,
+        None => unreachable!(),
+    }
+}
+
+/// Returns how many of the 64 bits after a first byte follow the affix, or [`NO_NUMBER`].
+#[inline(always)]
+pub(crate) fn shift_of(first: u8) -> u8
+    ensures small { first % 32 < 24 → result ≡ 0 }
+    ensures one { first % 32 ≡ 24 → result ≡ 56 }
+    ensures two { first % 32 ≡ 25 → result ≡ 48 }
+    ensures four { first % 32 ≡ 26 → result ≡ 32 }
+    ensures eight { first % 32 ≡ 27 → result ≡ 0 }
+    ensures none { 27 < first % 32 → result ≡ NO_NUMBER }
+{
+    FORMS[32 + usize::from(first % 32)]
 }
 
 impl Affix {
